@@ -35,14 +35,17 @@ def folder_of(name):
 
 
 def sources(name):
-    """Returns the files of a crate, each as the path that it has in its folder and where it lies."""
+    """Returns the files of a crate, each as the path that it has in its folder and where it lies. Of a crate of tests, a file NAME.rt.of names the file of the repository that NAME.rt is."""
     in_tests = name in crates_of_tests()
     folder = f"{ROOT}/{folder_of(name)}"
     for at, folders, files in os.walk(folder):
         folders[:] = sorted(it for it in folders if it != "out")
         for file in sorted(files):
-            path = os.path.relpath(f"{at}/{file}", folder)
-            yield path.removesuffix(".txt") if in_tests else path, f"{at}/{file}"
+            path, lies = os.path.relpath(f"{at}/{file}", folder), f"{at}/{file}"
+            if in_tests and path.endswith(".of"):
+                with open(lies, encoding="utf-8") as it:
+                    lies = f"{ROOT}/{it.read().strip()}"
+            yield (path.removesuffix(".txt").removesuffix(".of") if in_tests else path), lies
 
 
 def make(folder, names):

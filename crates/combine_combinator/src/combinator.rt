@@ -12,6 +12,8 @@ use types::{Ignore, LookAhead, Map, NoPartial, NotFollowedBy, Try};
 
 /// Parses as `p`, and changes its value by `f`.
 ///
+/// `f: Fn(P::Output) -> B`, or a `Function`.
+///
 /// What is taken, refusals, faults and need of more are those of `p`, and so is the state. `f` need only be callable on the values that `p` gives.
 ///
 /// # Differences from combine

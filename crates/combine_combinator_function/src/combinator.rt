@@ -15,6 +15,8 @@ use types::{AndThen, FlatMap, FromStr, MapInput};
 
 /// Parses as `p`, and changes its value by `f`, or refuses it where `f` returns an error.
 ///
+/// `f: Fn(P::Output) -> Result<B, E>, E: Into<StreamError>`, or a `Function`; `StreamError` is that of `Input::Error`.
+///
 /// What is taken, refusals, faults and need of more are those of `p`, and so is the state. `f` need only be callable on the values that `p` gives, and may return any error.
 ///
 /// # Errors
@@ -54,6 +56,8 @@ pub fn and_then<P, F, B>(p: P, f: F) -> AndThen<P, F, B>
 
 /// Parses as `p`, and changes its value by `f`, or refuses it with the error that `f` returns.
 ///
+/// `f: Fn(P::Output) -> Result<B, Input::Error>`, or a `Function`.
+///
 /// What is taken, refusals, faults and need of more are those of `p`, and so is the state. `f` need only be callable on the values that `p` gives, and may return any error.
 ///
 /// # Errors
@@ -92,7 +96,9 @@ pub fn flat_map<P, F, B>(p: P, f: F) -> FlatMap<P, F, B>
 
 /// Parses as `p`, and changes its value by `f`, which is given the stream too, as `p` left it.
 ///
-/// What is taken, refusals, faults and need of more are those of `p`, and so is the state. `f` leaves the stream in place, and need only be callable on the values that `p` gives.
+/// `f: Fn(P::Output, &mut Input) -> B`.
+///
+/// `f` has to leave the stream in place, and to be callable on the values that `p` gives. What is taken, refusals, faults and need of more are those of `p`, and so is the state.
 ///
 /// # Differences from combine
 ///

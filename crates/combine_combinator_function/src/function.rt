@@ -9,6 +9,8 @@ use types::{Called, EnvParser, FnParser, WithEnv, WithoutEnv};
 
 /// Parses as the function, which is given the stream.
 ///
+/// `f: Fn(&mut Input) -> StdParseResult<O, Input>`.
+///
 /// Nothing is added to errors.
 ///
 /// # What the function owes
@@ -38,6 +40,8 @@ pub fn parser<Input, F>(f: F) -> FnParser<Input, F>
 }
 
 /// Parses as `parser` does, by a function that is given a clone of `env` too.
+///
+/// `f: Fn(E, &mut Input) -> StdParseResult<O, Input>, E: Clone`.
 ///
 /// # Errors
 ///

@@ -9,6 +9,8 @@ use types::{Factory, Lazy};
 
 /// Parses as the parser that `maker` returns, which is called where a parse begins.
 ///
+/// `maker: Fn() -> N, N: Parser<Input>`, or a `Maker`.
+///
 /// Every parser that `maker` may return has to be lawful; where they have one outcome, there is one.
 ///
 /// # Errors
@@ -41,7 +43,9 @@ pub fn lazy<F>(maker: F) -> Lazy<F>
 
 /// Parses as the parser that `maker` returns for the stream where a parse begins.
 ///
-/// The maker leaves the stream in place. A call that begins afresh parses as [`make_and_parse`](crate::laws::make_and_parse) does.
+/// `maker: Fn(&mut Input) -> N, N: Parser<Input>`.
+///
+/// The maker has to leave the stream in place. A call that begins afresh parses as [`make_and_parse`](crate::laws::make_and_parse) does.
 ///
 /// # Errors
 ///

@@ -117,7 +117,7 @@ impl<F: Fn() -> P, P: Parser<fed::Stream<T>>, T: Copy + 'static> Decoder<F, P, T
 
     /// Returns a decoder that was fed nothing yet, of messages that the maker's parsers read.
     ///
-    /// The maker is called here, and then after each message: it may always be called, and each parser that it returns is lawful.
+    /// The maker must always be callable, and each parser that it returns must be lawful. It is called here, and then after each message.
     ///
     /// # Errors
     ///

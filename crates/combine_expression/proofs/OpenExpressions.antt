@@ -4,6 +4,8 @@ use Rattle.std.proofs.lemmas.List.{reverse-append}
 use Rattle.std.proofs.lemmas.Option.{slice_get_within}
 use Rattle.combine_expression.specs.declared.expression.Fixity.{Fixity}
 use Rattle.combine_expression.specs.declared.expression.Fixity.TheVariants as fixities
+use Rattle.combine_expression.specs.declared.expression.OperatorError.{OperatorError}
+use Rattle.combine_expression.specs.declared.expression.OperatorError.TheVariants as operator_errors
 use Rattle.combine_expression.specs.declared.expression.operands.Pending.{Pending}
 use Rattle.combine_expression.specs.declared.expression.operands.Held.{Held}
 use Rattle.combine_expression.specs.declared.expression.operands.Operands.{Operands}
@@ -12,7 +14,7 @@ use Rattle.combine_expression.specs.Levels.{Thing, Operand, Prefix, Postfix, Inf
 use Rattle.combine_expression.specs.declared.expression.operands.Fault.{Fault}
 use Rattle.combine_expression.specs.declared.expression.operands.Fault.TheVariants as faults
 use Rattle.combine_expression.specs.Shapes.{ReducedShape, Shape, infix_between, fit, fits, fits_behind, fits_in_front, holds_if, needs_level, reduce_to, sides_of, start, waits_if}
-use Rattle.combine_expression.specs.OpenExpressions.{EndsEarly, AddsThing, HoldsOperand, Misfits, OperatorRefuses, refuses_one_operand, refuses_two_operands, Reduced, ReducedAbove, StandsIn, asked_level, blames, held_level, operator_refuses, pends, shape_of, shapes, stands, waits_so}
+use Rattle.combine_expression.specs.OpenExpressions.{EndsEarly, AddsThing, HoldsOperand, Misfits, OperatorRefuses, refuses_one_operand, refuses_two_operands, Reduced, ReducedAbove, StandsIn, asked_level, blames, fault_of, held_level, operator_refuses, pends, shape_of, shapes, stands, unless_memory, waits_so}
 use Rattle.combine_expression.proofs.CompleteExpressions.{fits_one, infix_fits, no_misfit, no_open_end, pops, postfix_fits, stays}
 use Rattle.combine_expression.proofs.Reductions.{innermost_of, stands_lower}
 
@@ -215,9 +217,13 @@ module _ {O V : Type 0} {N : ℕ} (changes : O → V → V → Type 0) (joins : 
         follow (Postfix level o) (reverse ps) (Some next) el (ap reverse ep) eh (held_at changes joins from (Postfix level o) (Some held) (Some (record { slots = shapes (reverse ps); held = Some next.level })) e (postfix_fits O V from.levels (shapes (around changes joins from)) held.level level o (record { slots = shapes (reverse ps); level = left.level }) b.0 reduced.shape b.1 ∙ ap (λ n. Some (record { slots = shapes (reverse ps); held = Some n })) (sym r.level))) (λ ts w. postfix_so from.levels changes joins (reverse ps) ts level o left next b.0 reduced.low b.1 r (reduced.holds from.levels ts (out_of (Some held) ts e w)))
 
 module _ {O V : Type 0} (refuses_operand : O → V → Type 0) (refuses_operands : O → V → V → Type 0) where
-  pub refuses_so : (o : O) (left : Option V) (right : V) → operator_refuses refuses_operand refuses_operands o left right → OperatorRefuses refuses_operand refuses_operands
+  refuses_so : (o : O) (left : Option V) (right : V) → operator_refuses refuses_operand refuses_operands o left right → OperatorRefuses refuses_operand refuses_operands
   refuses_so o None b r = refuses_one_operand o b r
   refuses_so o (Some a) b r = refuses_two_operands o a b r
+
+  pub operator_blames : (o : O) (left : Option V) (right : V) (e : OperatorError) → unless_memory (operator_refuses refuses_operand refuses_operands o left right) e → blames refuses_operand refuses_operands ⊥ (fault_of e)
+  operator_blames o left right (operator_errors.Refused m) r = refuses_so o left right r
+  operator_blames o left right operator_errors.Memory r = tt
 
   pub blames_any : (misfit : Type 0) (x : Fault) → blames refuses_operand refuses_operands ⊥ x → blames refuses_operand refuses_operands misfit x
   blames_any misfit faults.Memory b = tt

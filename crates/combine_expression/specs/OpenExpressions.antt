@@ -3,6 +3,8 @@ use Rattle.std.specs.Prelude.{◌≡◌, ℕ, ◌≤◌, List, [], ◌∷◌, �
 use Rattle.std.specs.Prelude.{Option, Some, None}
 use Rattle.combine_expression.specs.declared.expression.Fixity.{Fixity}
 use Rattle.combine_expression.specs.declared.expression.Fixity.TheVariants as fixities
+use Rattle.combine_expression.specs.declared.expression.OperatorError.{OperatorError}
+use Rattle.combine_expression.specs.declared.expression.OperatorError.TheVariants as operator_errors
 use Rattle.combine_expression.specs.declared.expression.operands.Pending.{Pending}
 use Rattle.combine_expression.specs.declared.expression.operands.Held.{Held}
 use Rattle.combine_expression.specs.declared.expression.operands.Operands.{Operands}
@@ -110,6 +112,16 @@ module _ {O V : Type 0} {N : ℕ} (changes : O → V → V → Type 0) (joins : 
   -- what was read is no expression
   pub record EndsEarly (from : Operands O V N) : Type 0 where
     pub none : (ts : List (Thing O V)) (w : V) → StandsIn from ts → IsExpression from.levels changes joins 0 ts w → ⊥
+
+-- an operator that makes no value refuses, unless it finds no memory
+abbrev pub unless_memory : Type 0 → OperatorError → Type 0
+unless_memory refuses (operator_errors.Refused m) = refuses
+unless_memory refuses operator_errors.Memory = Unit {0}
+
+-- and so an expression doesn't go on
+abbrev pub fault_of : OperatorError → Fault
+fault_of (operator_errors.Refused m) = faults.Refused m
+fault_of operator_errors.Memory = faults.Memory
 
 module _ {O V : Type 0} (refuses_operand : O → V → Type 0) (refuses_operands : O → V → V → Type 0) where
   -- an operator refuses its operands

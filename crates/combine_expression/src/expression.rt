@@ -10,7 +10,7 @@ pub mod operands;
 pub mod types;
 
 use combine_nested::nested::{if_else, nested};
-use std::alloc::Global;
+use std::alloc::{AllocError, Global};
 use types::{Awaits, Expression, InBrackets, Outermost};
 
 /// Where the operators of a level stand, and how they group.
@@ -28,9 +28,31 @@ pub enum Fixity {
     Neither,
 }
 
+/// Why an operator makes no value.
+#[derive(Clone, Copy, Debug, PartialEq, Eq, Drop)]
+pub enum OperatorError {
+    /// It refuses its operands, with this message.
+    Refused(&'static str),
+    /// It finds no memory.
+    Memory,
+}
+
+impl From<&'static str> for OperatorError {
+    fn from(message: &'static str) -> Self {
+        OperatorError::Refused(message)
+    }
+}
+
+impl From<AllocError> for OperatorError {
+    fn from(_error: AllocError) -> Self {
+        OperatorError::Memory
+    }
+}
+
 /// An operator of a caller's own.
 pub trait Operator: Drop {
     ghost use Rattle.std.specs.Prelude.{MatchResult};
+    ghost use Rattle.combine_expression.specs.OpenExpressions.{unless_memory};
 
     /// What an expression is worth.
     type Value: Drop;
@@ -47,13 +69,21 @@ pub trait Operator: Drop {
     /// What operands it may refuse. An operator that doesn't define it may refuse any.
     ghost refuses_operands: { Self → Self.Value → Self.Value → Type 0 } = { λ _ _ _. Unit {0} };
 
-    /// Returns the value that a prefix or a postfix operator makes of its operand's, or refuses it with a message.
-    fn change(self, operand: Self::Value) -> Result<Self::Value, &'static str>
-        ensures { MatchResult result (changes self operand) (λ _. refuses_operand self operand) };
+    /// Returns the value that a prefix or a postfix operator makes of its operand's.
+    ///
+    /// # Errors
+    ///
+    /// `Refused` with a message if it refuses the operand, and `Memory` if it finds none.
+    fn change(self, operand: Self::Value) -> Result<Self::Value, OperatorError>
+        ensures { MatchResult result (changes self operand) (unless_memory (refuses_operand self operand)) };
 
-    /// Returns the value that an infix operator makes of its operands', or refuses them with a message.
-    fn join(self, left: Self::Value, right: Self::Value) -> Result<Self::Value, &'static str>
-        ensures { MatchResult result (joins self left right) (λ _. refuses_operands self left right) };
+    /// Returns the value that an infix operator makes of its operands'.
+    ///
+    /// # Errors
+    ///
+    /// `Refused` with a message if it refuses the operands, and `Memory` if it finds none.
+    fn join(self, left: Self::Value, right: Self::Value) -> Result<Self::Value, OperatorError>
+        ensures { MatchResult result (joins self left right) (unless_memory (refuses_operands self left right)) };
 }
 
 /// What a step of an expression reads.
@@ -77,6 +107,8 @@ pub enum Item<O, V> {
 
 /// Parses an expression of operators with levels, and with brackets inside one another, at most `depth` of them.
 ///
+/// `awaited: Fn(&Part<O, O::Value, N>) -> P, P: Parser<Input, Output = Item<O, O::Value>>`, or `always`; so are `inside` and `outside`.
+///
 /// `levels` says how the operators of each level stand and group, the level first that binds least. An operator of a level that it doesn't have fits nowhere. The value is that of the expression in which what is in brackets is an operand; it is committed exactly if a step was.
 ///
 /// Three functions return the parsers of the steps:
@@ -85,7 +117,7 @@ pub enum Item<O, V> {
 /// - `inside` that of what stands after an operand in brackets: an operator, or [`Item::Close`] for the closing bracket.
 /// - `outside` that of what stands after an operand outside of brackets: an operator, or [`Item::Close`] where no operator follows, as `map(optional(operator), |next| next.unwrap_or(Item::Close))`.
 ///
-/// Each is as a step of [`nested`]: [`always`](combine_nested::nested::always) for a parser that is `Copy`, or a function of the part that is open.
+/// A closure has to write its parameter's type, that of the part that is open: `|_: &Part<O, V, N>| ..`, with `Part` of [`types`]. [`always`](combine_nested::nested::always) takes a parser that is `Copy`, [`always_with`](combine_nested::nested::always_with) a function that makes it. Each is as a step of [`nested`].
 ///
 /// # Errors
 ///
@@ -93,6 +125,7 @@ pub enum Item<O, V> {
 /// - What an operator refuses is refused with its message. An operator is given its operands as soon as they are read, so what it refuses is refused before what follows is looked at.
 /// - What begins no expression is refused: an operator with the message `operator cannot stand here`, an operand after an operand with `operand cannot stand here`, and an end where an operand is awaited with `operand expected`.
 /// - A bracket too many is refused committed, with the message `nesting too deep`.
+/// - An operator that finds no memory is the fault `Memory`.
 ///
 /// The second and the third are committed if this step or one before it was.
 ///

@@ -4,10 +4,14 @@ use Rattle.combine_choice_dispatch.specs.declared.variants.either.Either.{Either
 use Rattle.combine_choice_dispatch.specs.declared.variants.either.Either.TheVariants.{Left, Right}
 use Rattle.combine_combinator_lazy.specs.MadeParsers.{MadeBySome}
 use Rattle.combine_nested.specs.declared.nested.asked.Always.{Always}
+use Rattle.combine_nested.specs.declared.nested.asked.AlwaysWith.{AlwaysWith}
 use Rattle.combine_nested.specs.declared.nested.asked.IfElse.{IfElse}
 
 abbrev pub always_of : {Q : Type 0} → Q → Always Q
 always_of q = record { 0 = q }
+
+abbrev pub always_with_of : {M : Type 0} → M → AlwaysWith M
+always_with_of m = record { 0 = m }
 
 abbrev pub if_else_of : {C A B : Type 0} → C → A → B → IfElse C A B
 if_else_of c a b = record { 0 = c; 1 = a; 2 = b }

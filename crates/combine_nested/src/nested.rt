@@ -4,14 +4,14 @@
 //!
 //! Nothing recurses, so no input overflows the call stack, and a parse goes on at the step where a piece ended.
 ghost use Rattle.std.specs.Prelude.{◌≡◌, MatchResult};
-ghost use Rattle.combine_nested.specs.Asks.{always_of, if_else_of};
+ghost use Rattle.combine_nested.specs.Asks.{always_of, always_with_of, if_else_of};
 ghost use Rattle.combine_nested.specs.NestedSteps.{nested_of};
 
 pub mod asked;
 mod steps;
 pub mod types;
 
-use asked::{Always, IfElse};
+use asked::{Always, AlwaysWith, IfElse};
 use std::alloc::{AllocError, Global};
 use types::Nested;
 
@@ -67,7 +67,10 @@ pub trait Frame: Drop {
 
 /// Parses steps, one after another, over frames that are open inside one another, at most `depth` of them inside the outermost.
 ///
-/// `root` makes the outermost frame. `step` returns the parser of each step, by the innermost frame, which takes its item: a function of the frame, or [`always`] for the same parser at each step, or [`if_else`] for one of two. The value is that with which the outermost frame is closed; it is committed exactly if a step was.
+/// `root: Fn() -> F, F: Frame`, or a `Maker`.
+/// `step: Fn(&F) -> N, N: Parser<Input, Output = F::Item>`, or `always`, `always_with` or `if_else`.
+///
+/// A closure for `step` has to write its parameter's type, as `|_: &Brackets| ..`. `root` makes the outermost frame. `step` returns the parser of each step, by the innermost frame, which takes its item: a function of the frame, or [`always`] and [`always_with`] for the same parser at each step, or [`if_else`] for one of two. The value is that with which the outermost frame is closed; it is committed exactly if a step was.
 ///
 /// Open frames are kept in memory of `alloc`, one after another. To give a frame the place at which an item stood, read it with the item, as `(position(), item)`.
 ///
@@ -129,6 +132,8 @@ pub fn nested<R, S>(alloc: Global, depth: usize, root: R, step: S) -> Nested<R, 
 }
 
 /// Returns the same parser at each step.
+///
+/// The parser has to be `Copy`. That of a class (but `char::digit`), a text, a list of tokens, an integer or a range isn't, nor are `iterate`, `spanned`, `expected`, `message`, `silent` and `unexpected`: [`always_with`] makes one of these anew at each step.
 #[inline]
 pub fn always<P>(parser: P) -> Always<P>
     ensures { result ≡ always_of parser }
@@ -136,7 +141,18 @@ pub fn always<P>(parser: P) -> Always<P>
     Always(parser)
 }
 
+/// Returns the parser that `maker` makes at each step, as `always_with(|| expected(digit(), "digit"))`.
+#[inline]
+pub fn always_with<M>(maker: M) -> AlwaysWith<M>
+    ensures { result ≡ always_with_of maker }
+{
+    AlwaysWith(maker)
+}
+
 /// Returns what `first` does where `test` holds of the innermost frame, and else what `second` does.
+///
+/// `test: Fn(&F) -> bool`.
+/// `first: Fn(&F) -> N, N: Parser<Input>`, or `always`, or `if_else`; so is `second`.
 #[inline]
 pub fn if_else<C, A, B>(test: C, first: A, second: B) -> IfElse<C, A, B>
     ensures { result ≡ if_else_of test first second }

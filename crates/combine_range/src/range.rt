@@ -88,6 +88,8 @@ pub fn take<Input>(count: usize) -> Take<Input>
 
 /// Takes the longest beginning whose tokens the predicate holds of.
 ///
+/// `predicate: Fn(Input::Token) -> bool`, or a `Function`.
+///
 /// The acceptance is committed, or peeked where the beginning is empty.
 ///
 /// # Errors
@@ -123,6 +125,8 @@ pub fn take_while<Input, F>(predicate: F) -> TakeWhile<Input, F>
 }
 
 /// Takes the longest beginning as `take_while` does, but refuses an empty one peeked.
+///
+/// `predicate: Fn(Input::Token) -> bool`, or a `Function`.
 ///
 /// # Errors
 ///

@@ -17,7 +17,9 @@ use types::{Chainr1, Escaped, RightFold};
 
 /// Parses as `parser`, and then by turns as `operator` and `parser`: folds the values from the right, by the functions that `operator` gives.
 ///
-/// It takes as `sep_by1` does. The functions must be such that they can always be called. The operands are held in memory of `alloc`, and not on the call stack.
+/// `operator: Parser<Input, Output = O>, O: FnOnce(P::Output, P::Output) -> P::Output`.
+///
+/// The functions must always be callable. It takes as `sep_by1` does. The operands are held in memory of `alloc`, and not on the call stack.
 ///
 /// # Errors
 ///

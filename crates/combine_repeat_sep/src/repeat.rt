@@ -134,7 +134,7 @@ impl<
 /// # Errors
 ///
 /// - The refusal of the first element is the result, but a peeked one with `min` 0.
-/// - A peeked refusal of a later turn after fewer than `min` elements refuses with the message `expected N more elements`, at the position where that turn began. It is committed exactly if a turn was.
+/// - A peeked refusal of a later turn after fewer than `min` elements refuses with the message `expected N more elements`, at the position where that turn began. It is committed exactly if a turn was. Its kind is that of the turn's refusal: `End` where the input ended, and else `Refused`.
 /// - A separator that is committed, with an element after it that is refused, refuses committed.
 /// - A later turn that takes nothing is refused, committed, with the message `repetition takes nothing`.
 /// - Faults are as for `many`.
@@ -221,7 +221,9 @@ pub fn sep_by1<F, P, S>(alloc: Global, parser: P, separator: S) -> SepBy1<F, P, 
 
 /// Parses as `parser`, and then by turns as `operator` and `parser`: folds the values from the left, by the functions that `operator` gives.
 ///
-/// It takes as `sep_by1` does. The functions must be such that they can always be called.
+/// `operator: Parser<Input, Output = O>, O: FnOnce(P::Output, P::Output) -> P::Output`.
+///
+/// The functions must always be callable. It takes as `sep_by1` does.
 ///
 /// # Errors
 ///

@@ -94,15 +94,17 @@ impl<O, W, U> SeparatedState<O, W, U> {
     }
 }
 
-/// A function that makes one operand of two. Our own.
+/// An operator of a chain, which makes one operand of two: a closure, a function, or a type of one's own, perhaps an enum. Our own.
+///
+/// A type of one's own writes `fold_two`; it can then be called on any two operands, and nothing is known of what it returns. By `callable` and `answers` it says more.
 ///
 /// It stands apart so that what shows its bound stands in a declaration of its own, as with `Function` of `combine_base`.
 pub trait Folds<V> {
     /// The functions that can be called on any two operands.
-    ghost callable: { Self → Type 0 };
+    ghost callable: { Self → Type 0 } = { λ _. Unit {0} };
 
     /// What it may return.
-    ghost answers: { Self → V → V → V → Type 0 };
+    ghost answers: { Self → V → V → V → Type 0 } = { λ _ _ _ _. Unit {0} };
 
     /// Makes one operand of two.
     fn fold_two(self, left: V, right: V) -> V

@@ -84,7 +84,9 @@ pub fn between<L, R, P, A>(l: L, r: R, p: P) -> Between<L, R, P, A>
 
 /// Parses as `parser`, and then as the parser that `f` returns for its value, whose value is the value of both.
 ///
-/// `f` is called once, where `parser` is accepted. The result is committed if one of the two is. Every parser that `f` may return has to be lawful.
+/// `f: Fn(P::Output) -> N, N: Parser<Input>`, or a `Function`.
+///
+/// Every parser that `f` may return has to be lawful. `f` is called once, where `parser` is accepted. The result is committed if one of the two is.
 ///
 /// # Errors
 ///
@@ -116,6 +118,8 @@ pub fn then<P, F, B>(parser: P, f: F) -> Then<P, F, B>
 
 /// Parses as `then` does, where the function takes a mutable reference to the value.
 ///
+/// `f: Fn(&mut P::Output) -> N, N: Parser<Input>`.
+///
 /// # Differences from combine
 ///
 /// The crate's hands its function the value as it stands in the state, and asks it again for each piece.
@@ -141,6 +145,8 @@ pub fn then_partial<P, F, B>(parser: P, f: F) -> ThenPartial<P, F, B>
 }
 
 /// Parses as `then` does, where the function takes a reference to the value.
+///
+/// `f: Fn(&P::Output) -> N, N: Parser<Input>`.
 ///
 /// The value of both is the pair of both values.
 ///

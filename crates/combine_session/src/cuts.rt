@@ -92,7 +92,7 @@ fn parse_window<S: Windowed, P: Parser<MaybePartialStream<S::Located>>>(
 
 /// Parses a whole input window by window, and returns how many windows asked for more, and the first decision.
 ///
-/// Each window goes from the first unread token to the next cut and is open, and the last goes to the end, ended. No window begins again: the state and the position go on. The result is that of the whole input. A refusal counts the tokens that had been taken from its beginning, at most all. The cuts have to fit, as [`cuts_fit`] says.
+/// The cuts have to fit, as [`cuts_fit`] says. Each window goes from the first unread token to the next cut and is open, and the last goes to the end, ended. No window begins again: the state and the position go on. The result is that of the whole input. A refusal counts the tokens that had been taken from its beginning, at most all.
 ///
 /// # Errors
 ///

@@ -46,6 +46,8 @@ pub fn any<Input>() -> Any<Input>
 
 /// Takes a token that the predicate holds of, which is the value.
 ///
+/// `predicate: Fn(Input::Token) -> bool`, or a `Function`.
+///
 /// The acceptance is committed.
 ///
 /// # Errors
@@ -80,6 +82,8 @@ pub fn satisfy<Input, F>(predicate: F) -> Satisfy<Input, F>
 }
 
 /// Takes a token that the function gives a value for, which is the value.
+///
+/// `predicate: Fn(Input::Token) -> Option<B>`, or a `Function`.
 ///
 /// The acceptance is committed.
 ///
@@ -204,6 +208,8 @@ pub fn value<Input, T>(value: T) -> Value<Input, T>
 }
 
 /// Gives what the function returns.
+///
+/// `f: Fn() -> B`, or a `Maker`.
 ///
 /// It accepts everywhere, peeked, and reads nothing.
 ///

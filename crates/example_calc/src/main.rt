@@ -8,7 +8,7 @@ ghost use Rattle.example_calc.specs.Exact.{IsExact, IsArithmeticFault, IsRefused
 
 use combine::easy::TextStream;
 use combine::error::{DetailedError, StreamError};
-use combine::expression::{self, Fixity, Item};
+use combine::expression::{self, Fixity, Item, OperatorError};
 use combine::nested::always;
 use combine::parser::Parser;
 use combine::parser::char::digit;
@@ -59,12 +59,21 @@ impl expression::Operator for Operator {
     ghost refuses_operands = { IsRefused };
 
     /// Returns what the operator makes of 0 and the number after it.
-    fn change(self, operand: i64) -> Result<i64, &'static str> {
+    fn change(self, operand: i64) -> Result<i64, OperatorError> {
         self.join(0, operand)
     }
 
+    fn join(self, left: i64, right: i64) -> Result<i64, OperatorError> {
+        match self.calculate(left, right) {
+            Ok(value) => Ok(value),
+            Err(message) => Err(OperatorError::Refused(message)),
+        }
+    }
+}
+
+impl Operator {
     /// Returns what the operator makes of two numbers; a quotient is rounded towards zero.
-    fn join(self, left: i64, right: i64) -> Result<i64, &'static str>
+    fn calculate(self, left: i64, right: i64) -> Result<i64, &'static str>
         ensures { MatchResult result (IsExact self left right) (λ message. IsArithmeticFault self left right message.now) }
     {
         let value = match self {

@@ -5,11 +5,7 @@
 //! Proved: no input makes it crash, and it ends when its input does.
 #![tactic(auto)]
 
-#[cfg(test)]
-mod cut_heads;
 mod head;
-#[cfg(test)]
-mod whole_heads;
 
 use combine::error::UnexpectedParse;
 use combine::stream::{Kind, Positioned, RangeStream, position};

@@ -5,11 +5,6 @@
 //! Proved: no input makes it crash, and it ends when its input does.
 #![tactic(auto)]
 
-#[cfg(test)]
-mod cuts;
-#[cfg(test)]
-mod tests;
-
 use combine_base::error::Info;
 use combine_base::parser::Answer;
 use combine_base::stream::Kind;

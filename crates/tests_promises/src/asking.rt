@@ -89,13 +89,3 @@ where
     let _tokens = call_afresh(tokens(equal, "ab", [b'a', b'b']), input);
     let _compared = call_afresh(tokens_cmp([b'a', b'b'], equal), input);
 }
-
-#[test]
-fn asked(rt: HostRuntime) {
-    let alloc = rt.alloc();
-    choices(&mut fed::Stream::<u8>::new(alloc));
-    variants(&mut fed::Stream::<u8>::new(alloc));
-    answered(&mut fed::Stream::<u8>::new(alloc));
-    lists(&mut fed::Stream::<u8>::new(alloc));
-    any_lists(&mut fed::Stream::<u8>::new(alloc));
-}

@@ -7,8 +7,8 @@ use combine::parser::combinator::{ignore, map, recognize, spanned};
 use combine::parser::error::{expected, message, silent, unexpected, unexpected_any};
 use combine::parser::repeat::Sink;
 use combine::parser::token::any;
+use combine::stream::Stream;
 use combine::stream::span::{self, SpannedError};
-use combine::stream::{Stream, fed};
 use std::alloc::Global;
 
 fn changed<Input: Stream<Token = u8>>(alloc: Global)
@@ -41,11 +41,4 @@ where
     Input::Error: SpannedError<u8, Input::Range, Input::Position>,
 {
     keeps_without_memory::<span::Stream<Input>, _>(spanned(any()));
-}
-
-#[test]
-fn promised(rt: HostRuntime) {
-    changed::<fed::Stream<u8>>(rt.alloc());
-    told::<fed::Stream<u8>>();
-    placed::<fed::Stream<u8>>();
 }

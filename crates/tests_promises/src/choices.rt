@@ -6,7 +6,7 @@ use combine::parser::choice::{Dispatch3, Slice, choice, optional, or};
 use combine::parser::combinator::Either;
 use combine::parser::token::types::{Any, Token};
 use combine::parser::token::{any, token};
-use combine::stream::{Stream, fed};
+use combine::stream::Stream;
 
 fn choices<Input: Stream<Token = u8>>()
 where
@@ -56,12 +56,4 @@ where
         token(b'a'),
     ));
     keeps_without_memory::<Input, _>(second);
-}
-
-#[test]
-fn promised() {
-    choices::<fed::Stream<u8>>();
-    tuples::<fed::Stream<u8>>();
-    longer_tuples::<fed::Stream<u8>>();
-    variants::<fed::Stream<u8>>();
 }

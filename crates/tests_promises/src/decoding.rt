@@ -17,8 +17,3 @@ fn frames(alloc: Global) {
     messages_are_one(&maker);
     cuts_agree(&maker);
 }
-
-#[test]
-fn promised(rt: HostRuntime) {
-    frames(rt.alloc());
-}

@@ -6,7 +6,7 @@ use combine::error::ParseError;
 use combine::parser::byte::{ShowsBytes, bytes, bytes_cmp};
 use combine::parser::char::{string, string_cmp};
 use combine::parser::token::{none_of, one_of, tokens, tokens_cmp};
-use combine::stream::{Stream, fed};
+use combine::stream::Stream;
 
 /// One token of a list, or one that isn't.
 fn among<Input: Stream<Token = u8>>()
@@ -48,12 +48,4 @@ where
     let equal = |wanted: char, character: char| wanted == character;
     keeps_without_memory::<Input, _>(string("ab"));
     keeps_without_memory::<Input, _>(string_cmp("ab", equal));
-}
-
-#[test]
-fn promised() {
-    among::<fed::Stream<u8>>();
-    one_by_one::<fed::Stream<u8>>();
-    of_bytes::<fed::Stream<u8>>();
-    of_characters::<fed::Stream<char>>();
 }

@@ -11,7 +11,7 @@ use combine::parser::repeat::{Sink, iterate};
 use combine::parser::sequence::then;
 use combine::parser::token::types::{Any, Token};
 use combine::parser::token::{any, token};
-use combine::stream::{Stream, fed};
+use combine::stream::Stream;
 use std::alloc::Global;
 
 /// Answers a parser for an `a`, and leaves the stream in place.
@@ -80,11 +80,4 @@ where
 {
     keeps::<Input, _>(iterate::<Vec<u8>, _, _>(alloc, 0..2, the_first_of));
     keeps_without_memory::<Input, _>(iterate::<Sink, _, _>(alloc, 0..2, the_first_of));
-}
-
-#[test]
-fn promised(rt: HostRuntime) {
-    made::<fed::Stream<u8>>(rt.alloc());
-    answered_so::<fed::Stream<u8>>();
-    answered_for_items::<fed::Stream<u8>>(rt.alloc());
 }

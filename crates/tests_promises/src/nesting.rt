@@ -3,12 +3,12 @@ ghost use Rattle.std.specs.Prelude.{◌≡◌};
 
 use crate::promises::{keeps, keeps_alone};
 use combine::error::ParseError;
-use combine::expression::{Fixity, Item, Operator, expression};
+use combine::expression::{Fixity, Item, Operator, OperatorError, expression};
 use combine::nested::{Frame, Next, always, nested};
 use combine::parser::choice::optional;
 use combine::parser::combinator::map;
 use combine::parser::token::{any, satisfy_map};
-use combine::stream::{Stream, fed};
+use combine::stream::Stream;
 use std::alloc::{AllocError, Global};
 
 /// A brace that is open, or what stands round them all; any other token closes it.
@@ -53,12 +53,13 @@ struct Plus;
 impl Operator for Plus {
     type Value = u8;
 
-    fn change(self, operand: u8) -> Result<u8, &'static str> {
+    fn change(self, operand: u8) -> Result<u8, OperatorError> {
         Ok(operand)
     }
 
-    fn join(self, left: u8, right: u8) -> Result<u8, &'static str> {
-        left.checked_add(right).ok_or("sum too large")
+    fn join(self, left: u8, right: u8) -> Result<u8, OperatorError> {
+        left.checked_add(right)
+            .ok_or(OperatorError::Refused("sum too large"))
     }
 }
 
@@ -89,10 +90,4 @@ where
         always(lexeme),
         always(last),
     ));
-}
-
-#[test]
-fn promised(rt: HostRuntime) {
-    braces::<fed::Stream<u8>>(rt.alloc());
-    sums::<fed::Stream<u8>>(rt.alloc());
 }

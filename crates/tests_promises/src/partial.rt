@@ -9,14 +9,14 @@ use combine::parser::repeat::many1;
 use combine::parser::token::token;
 use combine::parser::{Answer, SessionError, parse_pieces};
 use combine::stream::Kind;
-use std::alloc::{AllocError, Global};
+use std::alloc::Global;
 
-type InPieces<T> = Result<Answer<T, UnexpectedParse>, SessionError>;
+pub type InPieces<T> = Result<Answer<T, UnexpectedParse>, SessionError>;
 
 const REFUSED: UnexpectedParse = UnexpectedParse(Kind::Refused);
 
 /// What a digit stands for.
-fn one_digit(alloc: Global, pieces: &[&[u8]]) -> InPieces<u8> {
+pub fn one_digit(alloc: Global, pieces: &[&[u8]]) -> InPieces<u8> {
     let value = map(
         digit(),
         |digit: u8| -> u8
@@ -27,7 +27,7 @@ fn one_digit(alloc: Global, pieces: &[&[u8]]) -> InPieces<u8> {
 }
 
 /// What each of several digits stands for.
-fn all_digits(alloc: Global, pieces: &[&[u8]]) -> InPieces<Vec<u8>> {
+pub fn all_digits(alloc: Global, pieces: &[&[u8]]) -> InPieces<Vec<u8>> {
     let value = map(
         digit(),
         |digit: u8| -> u8
@@ -38,7 +38,7 @@ fn all_digits(alloc: Global, pieces: &[&[u8]]) -> InPieces<Vec<u8>> {
 }
 
 /// What a digit stands for, and a semicolon.
-fn ended_digit(alloc: Global, pieces: &[&[u8]]) -> InPieces<(u8, u8)> {
+pub fn ended_digit(alloc: Global, pieces: &[&[u8]]) -> InPieces<(u8, u8)> {
     let value = map(
         digit(),
         |digit: u8| -> u8
@@ -49,7 +49,7 @@ fn ended_digit(alloc: Global, pieces: &[&[u8]]) -> InPieces<(u8, u8)> {
 }
 
 /// What a digit stands for, if it is less than eight.
-fn small_digit(alloc: Global, pieces: &[&[u8]]) -> InPieces<u8> {
+pub fn small_digit(alloc: Global, pieces: &[&[u8]]) -> InPieces<u8> {
     let value = and_then(
         digit(),
         |digit: u8| -> Result<u8, UnexpectedParse>
@@ -60,7 +60,7 @@ fn small_digit(alloc: Global, pieces: &[&[u8]]) -> InPieces<u8> {
 }
 
 /// The same, with the error of the stream.
-fn small_digit_flat(alloc: Global, pieces: &[&[u8]]) -> InPieces<u8> {
+pub fn small_digit_flat(alloc: Global, pieces: &[&[u8]]) -> InPieces<u8> {
     let value = flat_map(
         digit(),
         |digit: u8| -> Result<u8, UnexpectedParse>
@@ -73,47 +73,4 @@ fn small_digit_flat(alloc: Global, pieces: &[&[u8]]) -> InPieces<u8> {
 /// The number, if it is less than eight.
 fn below_eight(number: u8) -> Result<u8, UnexpectedParse> {
     if number < 8 { Ok(number) } else { Err(REFUSED) }
-}
-
-/// What is accepted, after so many tokens.
-fn accepted<T>(value: T, taken: u64) -> InPieces<T> {
-    Ok(Answer::Accepted {
-        value,
-        taken,
-        committed: true,
-    })
-}
-
-/// A refusal after so many tokens.
-fn refused<T>(taken: u64, committed: bool) -> InPieces<T> {
-    Ok(Answer::Refused {
-        error: REFUSED,
-        taken,
-        committed,
-    })
-}
-
-#[test]
-fn digits(rt: HostRuntime) -> Result<(), AllocError> {
-    let alloc = rt.alloc();
-    assert_eq!(rt; one_digit(alloc, &[b"", b"7", b"b"]), accepted(7, 1));
-    assert_eq!(rt; one_digit(alloc, &[b"b"]), refused(0, false));
-    let values = Vec::from_array(alloc, [7, 0, 9])?;
-    assert_eq!(rt;
-        all_digits(alloc, &[b"7", b"09", b"b"]),
-        accepted(values, 3)
-    );
-    assert_eq!(rt; all_digits(alloc, &[b"b7"]), refused(0, false));
-    assert_eq!(rt; ended_digit(alloc, &[b"7", b";b"]), accepted((7, b';'), 2));
-    assert_eq!(rt; ended_digit(alloc, &[b"77"]), refused(1, true));
-    Ok(())
-}
-
-#[test]
-fn small_digits(rt: HostRuntime) {
-    let alloc = rt.alloc();
-    assert_eq!(rt; small_digit(alloc, &[b"", b"7"]), accepted(7, 1));
-    assert_eq!(rt; small_digit(alloc, &[b"8"]), refused(1, true));
-    assert_eq!(rt; small_digit_flat(alloc, &[b"", b"7"]), accepted(7, 1));
-    assert_eq!(rt; small_digit_flat(alloc, &[b"8"]), refused(1, true));
 }

@@ -7,7 +7,7 @@ use combine::parser::byte::num::be_u16;
 use combine::parser::combinator::{attempt, look_ahead, map, no_partial, not_followed_by};
 use combine::parser::repeat::{chainr1, repeat_skip_until, repeat_until, skip_until, take_until};
 use combine::parser::token::{any, token};
-use combine::stream::{Stream, fed};
+use combine::stream::Stream;
 use std::alloc::Global;
 
 /// What a part reads is put back.
@@ -41,11 +41,4 @@ where
 {
     let operator = map(token(b'^'), |_: u8| |left: u8, right: u8| left ^ right);
     puts_back::<Input, _>(chainr1(alloc, any(), operator));
-}
-
-#[test]
-fn promised(rt: HostRuntime) {
-    wrapped::<fed::Stream<u8>>();
-    up_to_a_place::<fed::Stream<u8>>(rt.alloc());
-    chained::<fed::Stream<u8>>(rt.alloc());
 }

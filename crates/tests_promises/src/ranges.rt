@@ -89,14 +89,3 @@ where
     length_prefix_has_one_outcome::<Input, _>(&length);
     puts_back_without_memory::<Input, _>(length_prefix(length));
 }
-
-#[test]
-fn promised() {
-    beginnings::<&[u8]>();
-    recognized::<&[u8]>();
-    of_slices();
-    of_texts();
-    before_bytes::<&[u8]>();
-    found::<&[u8]>();
-    prefixed::<&[u8]>();
-}

@@ -8,7 +8,7 @@ use combine::parser::repeat::{
     sep_end_by, sep_end_by1, skip_count, skip_count_min_max, skip_many, skip_many1,
 };
 use combine::parser::token::{any, satisfy, token};
-use combine::stream::{Stream, fed};
+use combine::stream::Stream;
 use std::alloc::Global;
 
 /// Values are collected, which takes memory, or dropped.
@@ -48,11 +48,4 @@ where
     keeps::<Input, _>(sep_end_by1::<Vec<u8>, _, _>(alloc, token(b'a'), token(b',')));
     let operator = map(token(b'^'), |_: u8| |left: u8, right: u8| left ^ right);
     keeps_without_memory::<Input, _>(chainl1(any(), operator));
-}
-
-#[test]
-fn promised(rt: HostRuntime) {
-    turns::<fed::Stream<u8>>(rt.alloc());
-    counted::<fed::Stream<u8>>(rt.alloc());
-    separated::<fed::Stream<u8>>(rt.alloc());
 }

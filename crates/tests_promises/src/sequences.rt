@@ -5,7 +5,7 @@ use combine::dispatch;
 use combine::error::ParseError;
 use combine::parser::sequence::{between, skip, then, then_partial, then_ref, with};
 use combine::parser::token::{any, token, value};
-use combine::stream::{Stream, fed};
+use combine::stream::Stream;
 
 /// Tuples.
 fn tuples<Input: Stream<Token = u8>>()
@@ -56,12 +56,4 @@ where
         _ => value(kind),
     ),
     ));
-}
-
-#[test]
-fn promised() {
-    tuples::<fed::Stream<u8>>();
-    longer_tuples::<fed::Stream<u8>>();
-    of_one_value::<fed::Stream<u8>>();
-    answered::<fed::Stream<u8>>();
 }

@@ -4,7 +4,7 @@ use crate::promises::keeps_without_memory;
 use combine::error::ParseError;
 use combine::parser::byte::{byte, digit, spaces};
 use combine::parser::token::{any, eof, position, produce, satisfy, satisfy_map, token, value};
-use combine::stream::{Stream, fed};
+use combine::stream::Stream;
 
 /// One token, or none.
 fn single<Input: Stream<Token = u8>>()
@@ -29,10 +29,4 @@ where
     keeps_without_memory::<Input, _>(byte(b'a'));
     keeps_without_memory::<Input, _>(digit());
     keeps_without_memory::<Input, _>(spaces());
-}
-
-#[test]
-fn promised() {
-    single::<fed::Stream<u8>>();
-    classes::<fed::Stream<u8>>();
 }

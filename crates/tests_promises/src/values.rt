@@ -47,10 +47,3 @@ where
 {
     keeps_without_memory::<Input, _>(from_str::<_, u8>(value("12")));
 }
-
-#[test]
-fn promised() {
-    judged();
-    seen::<fed::Stream<u8>>();
-    read::<fed::Stream<u8>>();
-}

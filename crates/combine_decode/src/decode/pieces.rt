@@ -10,7 +10,7 @@ use std::alloc::{AllocError, Global};
 
 /// Decodes the pieces as one input. Our own.
 ///
-/// However the input is cut, the messages are those of all of it, in order, and so is their end. A refusal counts at most the tokens after the last message. If there are no pieces, it is the end of the messages of nothing. Pieces after an end other than `More` are not looked at. The maker may always be called, and each parser that it returns is lawful.
+/// The maker must always be callable, and each parser that it returns must be lawful. However the input is cut, the messages are those of all of it, in order, and so is their end. A refusal counts at most the tokens after the last message. If there are no pieces, it is the end of the messages of nothing. Pieces after an end other than `More` are not looked at.
 ///
 /// # Errors
 ///

@@ -2,9 +2,9 @@
 ghost use Rattle.std.specs.Prelude.{◌≡◌, [], ◌∷◌, ◌++◌, MatchResult, None, length, reverse, slice_get, vec_items};
 ghost use Rattle.combine_expression.specs.Levels.{IsExpression, Infix, Operand, Postfix, Prefix};
 ghost use Rattle.combine_expression.specs.Shapes.{fits_behind, fits_in_front, sides_of};
-ghost use Rattle.combine_expression.specs.OpenExpressions.{EndsEarly, AddsThing, HoldsOperand, Misfits, Reduced, ReducedAbove, StandsIn, asked_level, blames, makes_of, operator_refuses};
+ghost use Rattle.combine_expression.specs.OpenExpressions.{EndsEarly, AddsThing, HoldsOperand, Misfits, Reduced, ReducedAbove, StandsIn, asked_level, blames, fault_of, makes_of, operator_refuses, unless_memory};
 
-use super::{Fixity, Operator};
+use super::{Fixity, Operator, OperatorError};
 use std::alloc::{AllocError, Global};
 
 /// The message of an operator that doesn't fit where it stands.
@@ -151,12 +151,22 @@ fn operate<O: Operator>(
     operator: O,
     left: Option<O::Value>,
     right: O::Value,
-) -> Result<O::Value, &'static str>
-    ensures { MatchResult result (makes_of O.changes O.joins operator left right) (λ _. operator_refuses O.refuses_operand O.refuses_operands operator left right) }
+) -> Result<O::Value, OperatorError>
+    ensures { MatchResult result (makes_of O.changes O.joins operator left right) (unless_memory (operator_refuses O.refuses_operand O.refuses_operands operator left right)) }
 {
     match left {
         Some(left) => operator.join(left, right),
         None => operator.change(right),
+    }
+}
+
+/// Returns why an expression doesn't go on whose operator makes no value.
+fn fault_of(error: OperatorError) -> Fault
+    ensures { result ≡ fault_of error }
+{
+    match error {
+        OperatorError::Refused(message) => Fault::Refused(message),
+        OperatorError::Memory => Fault::Memory,
     }
 }
 
@@ -175,7 +185,7 @@ fn reduce<O: Operator>(
     } = waits;
     match operate(operator, left, right) {
         Ok(value) => Ok(Held { value, level }),
-        Err(message) => Err(Fault::Refused(message)),
+        Err(error) => Err(fault_of(error)),
     }
 }
 

@@ -1,20 +1,21 @@
 //! What returns the parser of the next step.
 ghost use Rattle.std.specs.Prelude.{◌≡◌};
 
+use combine_base::function::Maker;
 use combine_choice_dispatch::variants::Either;
 
-/// A function that returns the parser of the next step, by the innermost frame.
+/// A function that returns the parser of the next step, by the innermost frame: a closure, or a type of one's own, which writes `Parser` and `ask`.
 pub trait Ask<F> {
     /// The parser that it returns.
     type Parser;
 
-    /// It may be asked.
-    ghost callable: { Self → Type 0 };
+    /// It may be called.
+    ghost callable: { Self → Type 0 } = { λ _. Unit {0} };
 
     /// Which parsers it may return for a frame.
-    ghost answers: { Self → F → Self.Parser → Type 0 };
+    ghost answers: { Self → F → Self.Parser → Type 0 } = { λ _ _ _. Unit {0} };
 
-    /// Returns the parser of the next step. It may be asked.
+    /// Returns the parser of the next step.
     fn ask(&self, frame: &F) -> Self::Parser
         requires { callable self.now }
         ensures { answers self.now frame.now result };
@@ -40,12 +41,12 @@ pub trait Test<F> {
     ghost use Rattle.std.specs.Prelude.{Bool};
 
     /// It may be called.
-    ghost callable: { Self → Type 0 };
+    ghost callable: { Self → Type 0 } = { λ _. Unit {0} };
 
     /// What it may return for a frame.
-    ghost tells: { Self → F → Bool → Type 0 };
+    ghost tells: { Self → F → Bool → Type 0 } = { λ _ _ _. Unit {0} };
 
-    /// Returns whether it holds of the frame. It may be called.
+    /// Returns whether it holds of the frame.
     fn test(&self, frame: &F) -> bool
         requires { callable self.now }
         ensures { tells self.now frame.now result };
@@ -78,6 +79,23 @@ impl<F, P: Copy> Ask<F> for Always<P> {
     #[inline(always)]
     fn ask(&self, _frame: &F) -> P {
         self.0
+    }
+}
+
+/// The parser that a function makes at each step.
+#[derive(Clone, Copy, Drop)]
+pub struct AlwaysWith<M>(pub(super) M);
+
+impl<F, M: Maker> Ask<F> for AlwaysWith<M> {
+    type Parser = M::Output;
+
+    ghost callable = { λ s. M.callable s.0 };
+
+    ghost answers = { λ s f n. M.returns s.0 n };
+
+    #[inline(always)]
+    fn ask(&self, _frame: &F) -> M::Output {
+        self.0.make()
     }
 }
 

@@ -17,9 +17,11 @@ use types::{Tokens, TokensCmp, TokensState};
 
 /// Takes the tokens of a list, one after another.
 ///
+/// `cmp: Fn(T::Item, Input::Token) -> bool, T: Clone + IntoIterator`.
+///
 /// Its value is a clone of the list.
 ///
-/// `cmp` is given each item of the list with the token at its place, and says whether the token fits. `expected` is what errors say was expected. An iterator of each clone of the list has to give equally many items, fewer than 2^64. An empty list is accepted peeked.
+/// An iterator of each clone of the list has to give equally many items, fewer than 2^64. `cmp` is given each of them with the token at its place, and returns whether the token fits. `expected` is what errors say was expected. An empty list is accepted peeked.
 ///
 /// # Errors
 ///
@@ -51,6 +53,8 @@ where
 }
 
 /// Takes the tokens of a list as `tokens` does, but says nothing of what was expected.
+///
+/// `cmp: Fn(T::Item, Input::Token) -> bool, T: Clone + IntoIterator`.
 ///
 /// The error of a committed mismatch says only which token stands there.
 ///
