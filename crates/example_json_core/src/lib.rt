@@ -3,6 +3,7 @@
 //! It is what the program `example_json` stands on.
 #![tactic(auto)]
 
+mod classes;
 mod document;
 mod grammar;
 mod node;

@@ -1,5 +1,8 @@
 //! What stands between blanks: texts, numbers, words and signs. `I` is the stream.
 
+use crate::classes::{
+    IsBlank, IsDigit, IsExponent, IsHexDigit, IsLetter, IsPlain, IsPlusOrMinus, IsSign,
+};
 use crate::grammar::{Item, Lexeme};
 use crate::texts::{Piece, Text, Word};
 use combine_base::function::Function;
@@ -17,42 +20,6 @@ use combine_token::choice::{optional, or};
 use combine_token::token::types::{Satisfy, SatisfyMap, Token};
 use combine_token::token::{satisfy, satisfy_map, token};
 use std::alloc::Global;
-
-/// A class of bytes.
-#[derive(Clone, Copy, Drop)]
-pub enum Class {
-    /// Blanks that may stand between parts.
-    Blank,
-    /// Bytes that may stand in a text as themselves.
-    Plain,
-    Digit,
-    HexDigit,
-    Letter,
-    /// Brackets, commas and colons.
-    Sign,
-    /// What begins an exponent.
-    Exponent,
-    /// The sign of an exponent.
-    PlusOrMinus,
-}
-
-impl Function<u8> for Class {
-    type Output = bool;
-
-    #[inline(always)]
-    fn call(&self, byte: u8) -> bool {
-        match self {
-            Class::Blank => matches!(byte, b' ' | b'\t' | b'\n' | b'\r'),
-            Class::Plain => byte >= b' ' && byte != b'"' && byte != b'\\',
-            Class::Digit => byte.is_ascii_digit(),
-            Class::HexDigit => byte.is_ascii_hexdigit(),
-            Class::Letter => byte.is_ascii_alphabetic(),
-            Class::Sign => matches!(byte, b'[' | b']' | b'{' | b'}' | b',' | b':'),
-            Class::Exponent => matches!(byte, b'e' | b'E'),
-            Class::PlusOrMinus => matches!(byte, b'+' | b'-'),
-        }
-    }
-}
 
 /// Returns the character that a byte after a backslash says by itself.
 #[derive(Clone, Copy, Drop)]
@@ -160,20 +127,20 @@ impl Function<(u8, Sink)> for ToItem {
 
 // A parser that is used at each step has to be `Copy`. Where tokens are passed over it is `many` into a `Sink`, since `skip_many` isn't.
 
-pub type Blanks<I> = Many<Sink, Satisfy<I, Class>>;
+pub type Blanks<I> = Many<Sink, Satisfy<I, IsBlank>>;
 
 /// Parses the blanks that may stand between parts.
 pub fn blanks<I>(alloc: Global) -> Blanks<I> {
-    many(alloc, satisfy(Class::Blank))
+    many(alloc, satisfy(IsBlank))
 }
 
-pub type HexDigit<I> = Satisfy<I, Class>;
+pub type HexDigit<I> = Satisfy<I, IsHexDigit>;
 
 pub type Unit<I> = Map<(HexDigit<I>, HexDigit<I>, HexDigit<I>, HexDigit<I>), ToUnit, u32>;
 
 /// Parses four hexadecimal digits.
 pub fn unit<I>() -> Unit<I> {
-    let digit = satisfy(Class::HexDigit);
+    let digit = satisfy(IsHexDigit);
     map((digit, digit, digit, digit), ToUnit)
 }
 
@@ -189,11 +156,11 @@ pub fn escape<I>() -> Escape<I> {
     with(token(b'\\'), behind)
 }
 
-pub type AnyPiece<I> = Or<Map<Satisfy<I, Class>, ToPiece, Piece>, Map<Escape<I>, ToPiece, Piece>>;
+pub type AnyPiece<I> = Or<Map<Satisfy<I, IsPlain>, ToPiece, Piece>, Map<Escape<I>, ToPiece, Piece>>;
 
 /// Parses a piece of a text.
 pub fn any_piece<I>() -> AnyPiece<I> {
-    or(map(satisfy(Class::Plain), ToPiece), map(escape(), ToPiece))
+    or(map(satisfy(IsPlain), ToPiece), map(escape(), ToPiece))
 }
 
 pub type Quoted<I> = Between<Token<I, u8>, Token<I, u8>, Many<Text, AnyPiece<I>>, Text>;
@@ -203,11 +170,11 @@ pub fn quoted<I>(alloc: Global) -> Quoted<I> {
     between(token(b'"'), token(b'"'), many(alloc, any_piece()))
 }
 
-pub type Digits<I> = Many1<Sink, Satisfy<I, Class>>;
+pub type Digits<I> = Many1<Sink, Satisfy<I, IsDigit>>;
 
 /// Parses digits.
 pub fn digits<I>(alloc: Global) -> Digits<I> {
-    many1(alloc, satisfy(Class::Digit))
+    many1(alloc, satisfy(IsDigit))
 }
 
 pub type Integer<I> = Or<Ignore<Token<I, u8>>, Ignore<Digits<I>>>;
@@ -224,13 +191,19 @@ pub fn fraction<I>(alloc: Global) -> Fraction<I> {
     optional((token(b'.'), digits(alloc)))
 }
 
-pub type Exponent<I> = Optional<(Satisfy<I, Class>, Optional<Satisfy<I, Class>>, Digits<I>)>;
+pub type Exponent<I> = Optional<
+    (
+        Satisfy<I, IsExponent>,
+        Optional<Satisfy<I, IsPlusOrMinus>>,
+        Digits<I>,
+    ),
+>;
 
 /// Parses an exponent, if there is one.
 pub fn exponent<I>(alloc: Global) -> Exponent<I> {
     optional((
-        satisfy(Class::Exponent),
-        optional(satisfy(Class::PlusOrMinus)),
+        satisfy(IsExponent),
+        optional(satisfy(IsPlusOrMinus)),
         digits(alloc),
     ))
 }
@@ -251,11 +224,11 @@ pub fn number<I>(alloc: Global) -> Number<I> {
     recognize(alloc, parts)
 }
 
-pub type Letters<I> = Many1<Word, Satisfy<I, Class>>;
+pub type Letters<I> = Many1<Word, Satisfy<I, IsLetter>>;
 
 /// Parses letters.
 pub fn letters<I>(alloc: Global) -> Letters<I> {
-    many1(alloc, satisfy(Class::Letter))
+    many1(alloc, satisfy(IsLetter))
 }
 
 pub type Value<I> = Or<
@@ -270,9 +243,9 @@ pub fn value<I>(alloc: Global) -> Value<I> {
     or(or(text, number), map(letters(alloc), ToLexeme))
 }
 
-pub type Sign<I> = Map<(Satisfy<I, Class>, Blanks<I>), ToItem, Item>;
+pub type Sign<I> = Map<(Satisfy<I, IsSign>, Blanks<I>), ToItem, Item>;
 
 /// Parses a bracket, a comma or a colon, and the blanks behind it.
 pub fn sign<I>(alloc: Global) -> Sign<I> {
-    map((satisfy(Class::Sign), blanks(alloc)), ToItem)
+    map((satisfy(IsSign), blanks(alloc)), ToItem)
 }
