@@ -43,10 +43,7 @@ pub type Step<I> = Or<
 /// Parses a step: a sign; or a value or a name, and the sign behind it if there is one.
 pub fn step<I>(alloc: Global, place: Place) -> Step<I> {
     let behind = optional(satisfy(MayFollow(place)));
-    or(
-        sign(alloc),
-        (value(alloc), between(blanks(alloc), blanks(alloc), behind)),
-    )
+    or(sign(), (value(alloc), between(blanks(), blanks(), behind)))
 }
 
 /// Returns the parser of a step, by what is open.
@@ -58,10 +55,6 @@ pub struct AskStep<I> {
 
 impl<I> Ask<Open> for AskStep<I> {
     type Parser = Step<I>;
-
-    ghost callable = { λ _. Unit {0} };
-
-    ghost answers = { λ _ _ _. Unit {0} };
 
     #[inline(always)]
     fn ask(&self, open: &Open) -> Step<I> {
@@ -93,5 +86,5 @@ pub fn document<I>(alloc: Global, depth: usize) -> Whole<I> {
         reads: PhantomData,
     };
     let value = nested(alloc, depth, MakeWhole { alloc }, steps);
-    between(blanks(alloc), eof(), value)
+    between(blanks(), eof(), value)
 }

@@ -6,13 +6,12 @@ use crate::classes::{
 use crate::grammar::{Item, Lexeme};
 use crate::texts::{Piece, Text, Word};
 use combine_base::function::Function;
-use combine_base::repeat::Sink;
 use combine_combinator::combinator::types::{Ignore, Map};
 use combine_combinator::combinator::{ignore, map};
 use combine_combinator_recognize::combinator::recognize;
 use combine_combinator_recognize::combinator::types::Recognize;
-use combine_repeat::repeat::types::{Many, Many1};
-use combine_repeat::repeat::{many, many1};
+use combine_repeat::repeat::types::{Many, Many1, SkipMany, SkipMany1};
+use combine_repeat::repeat::{many, many1, skip_many, skip_many1};
 use combine_sequence::sequence::types::{Between, With};
 use combine_sequence::sequence::{between, with};
 use combine_token::choice::types::{Optional, Or};
@@ -116,22 +115,20 @@ impl Function<Word> for ToLexeme {
 #[derive(Clone, Copy, Drop)]
 pub struct ToItem;
 
-impl Function<(u8, Sink)> for ToItem {
+impl Function<(u8, ())> for ToItem {
     type Output = Item;
 
     #[inline(always)]
-    fn call(&self, (sign, _blanks): (u8, Sink)) -> Item {
+    fn call(&self, (sign, _blanks): (u8, ())) -> Item {
         (Lexeme::Sign(sign), None)
     }
 }
 
-// A parser that is used at each step has to be `Copy`. Where tokens are passed over it is `many` into a `Sink`, since `skip_many` isn't.
-
-pub type Blanks<I> = Many<Sink, Satisfy<I, IsBlank>>;
+pub type Blanks<I> = SkipMany<Satisfy<I, IsBlank>>;
 
 /// Parses the blanks that may stand between parts.
-pub fn blanks<I>(alloc: Global) -> Blanks<I> {
-    many(alloc, satisfy(IsBlank))
+pub fn blanks<I>() -> Blanks<I> {
+    skip_many(satisfy(IsBlank))
 }
 
 pub type HexDigit<I> = Satisfy<I, IsHexDigit>;
@@ -170,25 +167,25 @@ pub fn quoted<I>(alloc: Global) -> Quoted<I> {
     between(token(b'"'), token(b'"'), many(alloc, any_piece()))
 }
 
-pub type Digits<I> = Many1<Sink, Satisfy<I, IsDigit>>;
+pub type Digits<I> = SkipMany1<Satisfy<I, IsDigit>>;
 
 /// Parses digits.
-pub fn digits<I>(alloc: Global) -> Digits<I> {
-    many1(alloc, satisfy(IsDigit))
+pub fn digits<I>() -> Digits<I> {
+    skip_many1(satisfy(IsDigit))
 }
 
 pub type Integer<I> = Or<Ignore<Token<I, u8>>, Ignore<Digits<I>>>;
 
 /// Parses what stands before a number's point.
-pub fn integer<I>(alloc: Global) -> Integer<I> {
-    or(ignore(token(b'0')), ignore(digits(alloc)))
+pub fn integer<I>() -> Integer<I> {
+    or(ignore(token(b'0')), ignore(digits()))
 }
 
 pub type Fraction<I> = Optional<(Token<I, u8>, Digits<I>)>;
 
 /// Parses a point and digits, if there is one.
-pub fn fraction<I>(alloc: Global) -> Fraction<I> {
-    optional((token(b'.'), digits(alloc)))
+pub fn fraction<I>() -> Fraction<I> {
+    optional((token(b'.'), digits()))
 }
 
 pub type Exponent<I> = Optional<
@@ -200,11 +197,11 @@ pub type Exponent<I> = Optional<
 >;
 
 /// Parses an exponent, if there is one.
-pub fn exponent<I>(alloc: Global) -> Exponent<I> {
+pub fn exponent<I>() -> Exponent<I> {
     optional((
         satisfy(IsExponent),
         optional(satisfy(IsPlusOrMinus)),
-        digits(alloc),
+        digits(),
     ))
 }
 
@@ -215,12 +212,7 @@ pub type Number<I> = Recognize<
 
 /// Parses a number, as it is written.
 pub fn number<I>(alloc: Global) -> Number<I> {
-    let parts = (
-        optional(token(b'-')),
-        integer(alloc),
-        fraction(alloc),
-        exponent(alloc),
-    );
+    let parts = (optional(token(b'-')), integer(), fraction(), exponent());
     recognize(alloc, parts)
 }
 
@@ -246,6 +238,6 @@ pub fn value<I>(alloc: Global) -> Value<I> {
 pub type Sign<I> = Map<(Satisfy<I, IsSign>, Blanks<I>), ToItem, Item>;
 
 /// Parses a bracket, a comma or a colon, and the blanks behind it.
-pub fn sign<I>(alloc: Global) -> Sign<I> {
-    map((satisfy(IsSign), blanks(alloc)), ToItem)
+pub fn sign<I>() -> Sign<I> {
+    map((satisfy(IsSign), blanks()), ToItem)
 }
