@@ -1,8 +1,8 @@
-//! The grammar of a document: steps, as what is open asks for them. `I` is the stream.
+//! The grammar of a document: steps, as what is open asks for them. `I` is the stream, and `V` the parser of a value: a type that named its parts too would have more than the 4,096 characters that one may have.
 
 use crate::grammar::Open;
 use crate::node::Document;
-use crate::parts::{Blanks, Sign, Value, blanks, sign, value};
+use crate::parts::{Blanks, Sign, blanks, sign};
 use crate::places::Place;
 use combine_base::function::{Function, Maker};
 use combine_nested::nested::asked::Ask;
@@ -32,33 +32,27 @@ impl Function<u8> for MayFollow {
 
 pub type Behind<I> = Optional<Satisfy<I, MayFollow>>;
 
-pub type Step<I> = Or<
-    Sign<I>,
-    (
-        Value<I>,
-        Between<Blanks<I>, Blanks<I>, Behind<I>, Option<u8>>,
-    ),
->;
+pub type Step<I, V> = Or<Sign<I>, (V, Between<Blanks<I>, Blanks<I>, Behind<I>, Option<u8>>)>;
 
 /// Parses a step: a sign; or a value or a name, and the sign behind it if there is one.
-pub fn step<I>(alloc: Global, place: Place) -> Step<I> {
+pub fn step<I, V>(value: V, place: Place) -> Step<I, V> {
     let behind = optional(satisfy(MayFollow(place)));
-    or(sign(), (value(alloc), between(blanks(), blanks(), behind)))
+    or(sign(), (value, between(blanks(), blanks(), behind)))
 }
 
 /// Returns the parser of a step, by what is open.
 #[derive(Drop)]
-pub struct AskStep<I> {
-    alloc: Global,
+pub struct AskStep<I, V> {
+    value: V,
     reads: PhantomData<I>,
 }
 
-impl<I> Ask<Open> for AskStep<I> {
-    type Parser = Step<I>;
+impl<I, V: Copy> Ask<Open> for AskStep<I, V> {
+    type Parser = Step<I, V>;
 
     #[inline(always)]
-    fn ask(&self, open: &Open) -> Step<I> {
-        step(self.alloc, open.place)
+    fn ask(&self, open: &Open) -> Step<I, V> {
+        step(self.value, open.place)
     }
 }
 
@@ -77,14 +71,17 @@ impl Maker for MakeWhole {
     }
 }
 
-pub type Whole<I> = Between<Blanks<I>, Eof<I>, Nested<MakeWhole, AskStep<I>>, Document>;
+pub type Whole<I, V> = Between<Blanks<I>, Eof<I>, Nested<MakeWhole, AskStep<I, V>>, Document>;
 
 /// Parses a document: one value with blanks round it, and nothing else.
-pub fn document<I>(alloc: Global, depth: usize) -> Whole<I> {
+pub fn document<I, V>(alloc: Global, depth: usize, value: V) -> Whole<I, V> {
     let steps = AskStep {
-        alloc,
+        value,
         reads: PhantomData,
     };
-    let value = nested(alloc, depth, MakeWhole { alloc }, steps);
-    between(blanks(), eof(), value)
+    between(
+        blanks(),
+        eof(),
+        nested(alloc, depth, MakeWhole { alloc }, steps),
+    )
 }

@@ -6,12 +6,13 @@ use crate::classes::{
 use crate::grammar::{Item, Lexeme};
 use crate::texts::{Piece, Text, Word};
 use combine_base::function::Function;
+use combine_base::repeat::Sink;
 use combine_combinator::combinator::types::{Ignore, Map};
 use combine_combinator::combinator::{ignore, map};
 use combine_combinator_recognize::combinator::recognize;
 use combine_combinator_recognize::combinator::types::Recognize;
-use combine_repeat::repeat::types::{Many, Many1, SkipMany, SkipMany1};
-use combine_repeat::repeat::{many, many1, skip_many, skip_many1};
+use combine_repeat::repeat::types::{Many, Many1, SkipMany};
+use combine_repeat::repeat::{many, many1, skip_many};
 use combine_sequence::sequence::types::{Between, With};
 use combine_sequence::sequence::{between, with};
 use combine_token::choice::types::{Optional, Or};
@@ -167,25 +168,25 @@ pub fn quoted<I>(alloc: Global) -> Quoted<I> {
     between(token(b'"'), token(b'"'), many(alloc, any_piece()))
 }
 
-pub type Digits<I> = SkipMany1<Satisfy<I, IsDigit>>;
+pub type Digits<I> = Many1<Sink, Satisfy<I, IsDigit>>;
 
-/// Parses digits.
-pub fn digits<I>() -> Digits<I> {
-    skip_many1(satisfy(IsDigit))
+/// Parses digits. They aren't skipped by `skip_many1`, since the parser of a value has to be `Copy`.
+pub fn digits<I>(alloc: Global) -> Digits<I> {
+    many1(alloc, satisfy(IsDigit))
 }
 
 pub type Integer<I> = Or<Ignore<Token<I, u8>>, Ignore<Digits<I>>>;
 
 /// Parses what stands before a number's point.
-pub fn integer<I>() -> Integer<I> {
-    or(ignore(token(b'0')), ignore(digits()))
+pub fn integer<I>(alloc: Global) -> Integer<I> {
+    or(ignore(token(b'0')), ignore(digits(alloc)))
 }
 
 pub type Fraction<I> = Optional<(Token<I, u8>, Digits<I>)>;
 
 /// Parses a point and digits, if there is one.
-pub fn fraction<I>() -> Fraction<I> {
-    optional((token(b'.'), digits()))
+pub fn fraction<I>(alloc: Global) -> Fraction<I> {
+    optional((token(b'.'), digits(alloc)))
 }
 
 pub type Exponent<I> = Optional<
@@ -197,11 +198,11 @@ pub type Exponent<I> = Optional<
 >;
 
 /// Parses an exponent, if there is one.
-pub fn exponent<I>() -> Exponent<I> {
+pub fn exponent<I>(alloc: Global) -> Exponent<I> {
     optional((
         satisfy(IsExponent),
         optional(satisfy(IsPlusOrMinus)),
-        digits(),
+        digits(alloc),
     ))
 }
 
@@ -212,7 +213,12 @@ pub type Number<I> = Recognize<
 
 /// Parses a number, as it is written.
 pub fn number<I>(alloc: Global) -> Number<I> {
-    let parts = (optional(token(b'-')), integer(), fraction(), exponent());
+    let parts = (
+        optional(token(b'-')),
+        integer(alloc),
+        fraction(alloc),
+        exponent(alloc),
+    );
     recognize(alloc, parts)
 }
 

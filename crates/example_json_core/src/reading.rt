@@ -1,7 +1,9 @@
 //! The reader: the grammar over a slice, a text, pieces, and with errors that can be read.
 
 use crate::document::document;
+use crate::grammar::Lexeme;
 use crate::node::Document;
+use crate::parts::value;
 use combine_base::error::{ParseError, UnexpectedParse};
 use combine_base::parser::{Answer, Parser};
 use combine_base::stream::{Stream, fed};
@@ -62,7 +64,20 @@ fn read_document<Input: Stream<Token = u8>, D: Runs<Input>>(
 where
     Input::Error: ParseError<u8, Input::Range, Input::Position>,
 {
-    driver.run(document(alloc, depth))
+    read_values(alloc, depth, value(alloc), driver)
+}
+
+/// Runs the parser of a document of such values.
+fn read_values<
+    Input: Stream<Token = u8>,
+    V: Parser<Input, Output = Lexeme> + Copy + Drop,
+    D: Runs<Input>,
+>(alloc: Global, depth: usize, value: V, driver: D) -> D::Answer
+where
+    Input::Error: ParseError<u8, Input::Range, Input::Position>,
+    requires { (v : V) → V.lawful v }
+{
+    driver.run(document(alloc, depth, value))
 }
 
 /// Reads the document that a slice is.
