@@ -3,8 +3,11 @@
 //! It is what the program `example_json` stands on.
 #![tactic(auto)]
 
+mod classes;
+mod document;
 mod grammar;
 mod node;
+mod parts;
 mod places;
 mod reading;
 mod texts;
