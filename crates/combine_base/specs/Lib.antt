@@ -1,5 +1,6 @@
 pub mod Distances
 pub mod Error
+pub mod Functions
 pub mod Parser
 pub mod Predicates
 pub mod Refusals
