@@ -10,7 +10,7 @@ pub mod operands;
 pub mod types;
 
 use combine_nested::nested::{if_else, nested};
-use std::alloc::{AllocError, Global};
+use std::alloc::{AllocError, AllocFailed, Global};
 use types::{Awaits, Expression, InBrackets, Outermost};
 
 /// Where the operators of a level stand, and how they group.
@@ -38,13 +38,32 @@ pub enum OperatorError {
 }
 
 impl From<&'static str> for OperatorError {
+    ghost use Rattle.combine_expression.specs.declared.expression.OperatorError.TheVariants.{Refused};
+
+    ghost from_gives = { λ message error. error ≡ Refused message };
+
     fn from(message: &'static str) -> Self {
         OperatorError::Refused(message)
     }
 }
 
 impl From<AllocError> for OperatorError {
+    ghost use Rattle.combine_expression.specs.declared.expression.OperatorError.TheVariants.{Memory};
+
+    ghost from_gives = { λ _ error. error ≡ Memory };
+
     fn from(_error: AllocError) -> Self {
+        OperatorError::Memory
+    }
+}
+
+// So that `Box::new(value)?` converts. The value is dropped.
+impl<T: Drop> From<AllocFailed<T>> for OperatorError {
+    ghost use Rattle.combine_expression.specs.declared.expression.OperatorError.TheVariants.{Memory};
+
+    ghost from_gives = { λ _ error. error ≡ Memory };
+
+    fn from(_refused: AllocFailed<T>) -> Self {
         OperatorError::Memory
     }
 }

@@ -13,4 +13,5 @@ pub mod sessions;
 pub mod settings;
 pub mod slices;
 pub mod streams;
+pub mod trees;
 pub mod words;
