@@ -2,4 +2,3 @@ pub mod Attributes
 pub mod Brackets
 pub mod Nests
 pub mod Records
-pub mod Settings

@@ -1,4 +1,4 @@
-//! Callers of the library: the README's and the guide's, word for word. Those of `attributes`, `digits`, `records` and `settings` say by a clause what the bytes are that they read; their proofs, in `proofs/`, cite the library's contracts alone.
+//! Callers of the library: the README's and the guide's, word for word. Those of `attributes`, `digits` and `records` say by a clause what the bytes are that they read; their proofs, in `proofs/`, cite the library's contracts alone.
 #![tactic(auto)]
 
 pub mod attributes;
@@ -10,7 +10,6 @@ pub mod nest;
 pub mod pieces;
 pub mod records;
 pub mod sessions;
-pub mod settings;
 pub mod slices;
 pub mod streams;
 pub mod trees;

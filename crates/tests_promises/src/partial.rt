@@ -15,17 +15,6 @@ pub type InPieces<T> = Result<Answer<T, UnexpectedParse>, SessionError>;
 
 const REFUSED: UnexpectedParse = UnexpectedParse(Kind::Refused);
 
-/// What a digit stands for.
-pub fn one_digit(alloc: Global, pieces: &[&[u8]]) -> InPieces<u8> {
-    let value = map(
-        digit(),
-        |digit: u8| -> u8
-            requires { is_ascii_digit digit ≡ true }
-        { digit - b'0' },
-    );
-    parse_pieces(alloc, value, pieces)
-}
-
 /// What each of several digits stands for.
 pub fn all_digits(alloc: Global, pieces: &[&[u8]]) -> InPieces<Vec<u8>> {
     let value = map(
