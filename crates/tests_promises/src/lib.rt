@@ -9,6 +9,7 @@ pub mod decoding;
 pub mod lists;
 pub mod made;
 pub mod nesting;
+pub mod own_types;
 pub mod partial;
 pub mod promises;
 pub mod put_back;
