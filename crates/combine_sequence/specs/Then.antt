@@ -1,7 +1,5 @@
 -- a parser, and then one that a function of its value answers, which is kept while it runs; and what runs of that parser promise
 use Rattle.std.specs.Prelude.{ℕ, ◌≡◌, Bool, refl}
-use denote.Ref.{Bor, MutBor}
-use Rattle.std.specs.Fn.{Shared}
 use Rattle.combine_base.specs.Error.Errors.{Observers}
 use Rattle.combine_base.specs.Stream.View.{View}
 use Rattle.combine_base.specs.Parser.Outcome.{Outcome, Accepted, shape}
@@ -57,21 +55,6 @@ only_last v b = b
 -- the first value is kept, and the pair of both is the value
 abbrev pub keep_first : {A : Type 0} → A → record { 0 : A }
 keep_first a = record { 0 = a }
-
--- may be asked at a reference to a
-abbrev pub TakesAt : {F T R : Type 0} → Shared F (Bor T × Unit {0}) R → F → T → Type 0
-TakesAt {T = T} g f a = (shown : Bor T) → shown.now ≡ a → g.pre f (shown, tt)
-
--- may be asked at a mutable reference to a
-abbrev pub TakesAtMut : {F T R : Type 0} → Shared F (MutBor T × Unit {0}) R → F → T → Type 0
-TakesAtMut {T = T} g f a = (shown : MutBor T) → shown.now ≡ a → g.pre f (shown, tt)
-
--- answered at a mutable reference to a, whatever is left there
-pub record ReturnsAtMut {F T R : Type 0} (g : Shared F (MutBor T × Unit {0}) (R × (MutBor T × Unit {0}))) (f : F) (a : T) (r : R) : Type 0 where
-  pub shown : MutBor T
-  pub shows : shown.now ≡ a
-  pub left : MutBor T
-  pub met : g.post f (shown, tt) (r, (left, tt))
 
 -- which of the two parsers runs
 abbrev pub step_of : {S V N U : Type 0} → AnsweredState S V N U → SequencePlace S (AnsweredProgress V N U)

@@ -118,7 +118,7 @@ pub fn then<P, F, B>(parser: P, f: F) -> Then<P, F, B>
 
 /// Parses as `then` does, where the function takes a mutable reference to the value.
 ///
-/// `f: Fn(&mut P::Output) -> N, N: Parser<Input>`.
+/// `f: Fn(&mut P::Output) -> N, N: Parser<Input>`, or a `MutFunction`.
 ///
 /// # Differences from combine
 ///
@@ -146,7 +146,7 @@ pub fn then_partial<P, F, B>(parser: P, f: F) -> ThenPartial<P, F, B>
 
 /// Parses as `then` does, where the function takes a reference to the value.
 ///
-/// `f: Fn(&P::Output) -> N, N: Parser<Input>`.
+/// `f: Fn(&P::Output) -> N, N: Parser<Input>`, or a `RefFunction`.
 ///
 /// The value of both is the pair of both values.
 ///

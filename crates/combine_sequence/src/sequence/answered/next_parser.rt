@@ -1,7 +1,7 @@
 //! Functions that are asked for a parser, by what they take.
 ghost use Rattle.std.specs.Prelude.{◌≡◌};
 
-use combine_base::function::Function;
+use combine_base::function::{Function, MutFunction, RefFunction};
 
 /// A function that returns a parser for a value, by what it takes of the value. Our own.
 pub trait NextParser<A> {
@@ -56,24 +56,24 @@ impl<A, F: Function<A>> NextParser<A> for ByValue<F> {
 #[derive(Clone, Copy, Drop)]
 pub struct ByMut<F>(pub(crate) F);
 
-impl<A: Drop, N, F: Fn(&mut A) -> N> NextParser<A> for ByMut<F> {
-    ghost use Rattle.combine_sequence.specs.Then.{ReturnsAtMut, TakesAtMut, forget};
+impl<A: Drop, F: MutFunction<(), A>> NextParser<A> for ByMut<F> {
+    ghost use Rattle.combine_sequence.specs.Then.{forget};
 
-    type Parser = N;
+    type Parser = F::Output;
 
     type Kept = ();
 
-    ghost callable = { λ f. TakesAtMut F.Fn f.0 };
+    ghost callable = { λ f. F.callable f.0 tt };
 
-    ghost answers = { λ f. ReturnsAtMut F.Fn f.0 };
+    ghost answers = { λ f a n. (left : A) × F.returns f.0 tt a n left };
 
     ghost keeps = { forget };
 
     #[inline(always)]
     /// Returns that nothing is kept of the value, and the parser.
-    fn ask(&self, value: A) -> ((), N) {
+    fn ask(&self, value: A) -> ((), F::Output) {
         let mut value = value;
-        ((), (self.0)(&mut value))
+        ((), self.0.call_mut((), &mut value))
     }
 }
 
@@ -81,24 +81,23 @@ impl<A: Drop, N, F: Fn(&mut A) -> N> NextParser<A> for ByMut<F> {
 #[derive(Clone, Copy, Drop)]
 pub struct ByRef<F>(pub(crate) F);
 
-impl<A, N, F: Fn(&A) -> N> NextParser<A> for ByRef<F> {
-    ghost use Rattle.std.specs.Fn.{FnReturnsAt};
-    ghost use Rattle.combine_sequence.specs.Then.{TakesAt, keep_first};
+impl<A, F: RefFunction<A>> NextParser<A> for ByRef<F> {
+    ghost use Rattle.combine_sequence.specs.Then.{keep_first};
 
-    type Parser = N;
+    type Parser = F::Output;
 
     type Kept = (A,);
 
-    ghost callable = { λ f. TakesAt F.Fn f.0 };
+    ghost callable = { λ f. F.callable f.0 };
 
-    ghost answers = { λ f. FnReturnsAt F.Fn f.0 };
+    ghost answers = { λ f. F.returns f.0 };
 
     ghost keeps = { keep_first };
 
     #[inline(always)]
     /// Returns the value, which is kept, and the parser.
-    fn ask(&self, value: A) -> ((A,), N) {
-        let parser = (self.0)(&value);
+    fn ask(&self, value: A) -> ((A,), F::Output) {
+        let parser = self.0.call_ref(&value);
         ((value,), parser)
     }
 }
