@@ -1,7 +1,5 @@
 -- the answers of `lazy` and `factory`, by those of the parser that was made
 use Rattle.std.proofs.Common.{◌≡◌, ◌⊎◌, inl, inr, Bool, true, false, List, refl, sym, subst, arith}
-use denote.Ref.{MutBor}
-use Rattle.std.specs.Fn.{Shared, always_fn}
 use Rattle.combine_base.specs.Error.Errors.{Observers}
 use Rattle.combine_base.specs.Error.Items.{ErrorItem}
 use Rattle.combine_base.specs.Parser.Answer.{World, CallRecord, Answers, Resumes, world}
@@ -37,16 +35,16 @@ made_kept_valid {N} {U} kept valid {first} {given} {l} r v = by_mode first r
     by_mode false r = subst (valid_made kept valid) (sym (r.kept refl)) v
 
 -- what a lawful maker makes for a stream is makable
-module _ {I P T N C V F : Type 0} (view : I → View P T) (marks : I → C → V → Type 0) (failures : I → Failures) (g : Shared F (MutBor I × Unit {0}) (N × (MutBor I × Unit {0}))) (lawful : N → Type 0) (f : F) where
+module _ {I P T N C V F : Type 0} (view : I → View P T) (marks : I → C → V → Type 0) (failures : I → Failures) (callable : F → Unit {0} → I → Type 0) (returns : F → Unit {0} → I → N → I → Type 0) (lawful : N → Type 0) (f : F) where
   abbrev made_for : View P T → N → Type 0
-  made_for = MadeAt view (λ i n l. g.post f (i, tt) (n, (l, tt)))
+  made_for = MadeAt view (returns f tt)
 
-  pub factory_makable : always_fn g f → MakerLeavesStream view marks failures (λ i n l. g.post f (i, tt) (n, (l, tt))) → ((v : View P T) (n : N) → made_for v n → lawful n) → (v : View P T) (n : N) → made_for v n → by_factory view marks failures g lawful n
+  pub factory_makable : ((i : I) → callable f tt i) → MakerLeavesStream view marks failures (returns f tt) → ((v : View P T) (n : N) → made_for v n → lawful n) → (v : View P T) (n : N) → made_for v n → by_factory view marks failures callable returns lawful n
   factory_makable h k every v n m = record {
     maker = f;
     is_callable = (h, k);
-    all = λ n m. every (view m.0.now) n (made_there view (λ i n l. g.post f (i, tt) (n, (l, tt))) m.0 m.1 n m.2);
-    made = (m.shown, m.left, m.met);
+    all = λ n m. every (view m.0) n (made_there view (returns f tt) m.0 m.1 n m.2);
+    made = (m.input, m.left, m.met);
   }
 
 module _ {N Input V U Checkpoint T R P E : Type 0} (p : parser.Ghosts N Input U V Checkpoint T R P E) (i : stream.Ghosts Input T R P E) (observers : Observers T R P E) (fresh : U → Type 0) (makes : MakesWhere P T N) (makable : N → Type 0) (adds : List (ErrorItem T R) → Type 0) where

@@ -1,6 +1,5 @@
 -- what a run of a parser that was made promises
 use Rattle.std.specs.Prelude.{◌≡◌, ◌⊎◌}
-use denote.Ref.{MutBor}
 use Rattle.combine_base.specs.Error.Errors.{Observers}
 use Rattle.combine_base.specs.Parser.Answer.{Answers, world}
 use Rattle.combine_base.specs.Parser.Drivers.{Starts}
@@ -12,7 +11,6 @@ use Rattle.combine_base.specs.Stream.Calls.{Passes}
 use Rattle.combine_base.specs.declared.error.ParseResult.{ParseResult}
 use Rattle.combine_base.specs.declared.parser.Parser as parser
 use Rattle.combine_base.specs.declared.stream.StreamOnce as stream
-use Rattle.combine_combinator_lazy.specs.MadeParsers.{MadeFor}
 use Rattle.combine_combinator_lazy.specs.declared.combinator.made.Made.{Made}
 use Rattle.combine_combinator_lazy.specs.declared.combinator.made.MadeState.{MadeState}
 use Rattle.combine_combinator_lazy.specs.declared.combinator.made.MadeState.TheVariants.{Unmade, Kept}
@@ -29,13 +27,13 @@ module _ {N Input V U Checkpoint T R P E : Type 0} (p : parser.Ghosts N Input U 
     pub leaves : (NeedsMore observers.kind (i.view left).is_open result × (state ≡ Kept (record { parser = parser; state = stopped })) × p.valid stopped) ⊎ ((NeedsMore observers.kind (i.view left).is_open result → ⊥) × (state ≡ Unmade))
     pub refuses : Reasoned observers.kind (i.view left).is_open ((p.meaning from.parser).refuses_from from.state (i.view input) (i.view left)) result
 
-  module _ (post : MutBor Input → N → MutBor Input → Type 0) where
+  module _ (returns : Input → N → Input → Type 0) where
     -- The maker was asked for this very stream, which it left in place, and the parser that it answered was run from a default state.
     pub record RunsMade (input left : Input) (state : MadeState N U) (result : ParseResult V E) : Type 0 where
       pub asked : Input
       pub parser : N
       pub begins : U
-      pub made : MadeFor i.view post input asked parser
+      pub made : returns input parser asked
       pub view : i.view asked ≡ i.view input
       pub passes : Passes (i.marks input) (i.marks asked) (i.failures input) (i.failures asked)
       pub failures : i.failures asked ≡ i.failures input
@@ -46,6 +44,6 @@ module _ {N Input V U Checkpoint T R P E : Type 0} (p : parser.Ghosts N Input U 
     pub record ParsesMade (input left : Input) (result : ParseResult V E) : Type 0 where
       pub asked : Input
       pub parser : N
-      pub made : MadeFor i.view post input asked parser
+      pub made : returns input parser asked
       pub answers : Starts (world i.step observers i.counts_failures fresh) (p.meaning parser) (i.view input) (i.view left) (i.failures input) (i.failures left) result
       pub refuses : Reasoned observers.kind (i.view left).is_open ((p.meaning parser).refuses (i.view input) (i.view left)) result

@@ -1,8 +1,6 @@
 -- parsers that a maker answers where a call begins; the state is the one that runs, and its state
 use Rattle.std.specs.Prelude.{◌≡◌, List, [], ◌++◌, Bool, true, false, refl, ◌↔◌}
-use Rattle.std.proofs.Common.{ap, sym, subst, ◌∙◌, append_assoc}
-use denote.Ref.{MutBor}
-use Rattle.std.specs.Fn.{Shared, always_fn}
+use Rattle.std.proofs.Common.{ap, sym, ◌∙◌, append_assoc}
 use Rattle.combine_base.specs.Stream.View.{View, MayFollow, extended}
 use Rattle.combine_base.specs.Stream.Advance.{extended_none, follows_none, open_follows}
 use Rattle.combine_base.specs.Stream.Calls.{Passes}
@@ -64,40 +62,29 @@ at_any answers v n = answers n
 pub at_any_lasts : {P T N : Type 0} (answers : N → Type 0) → Lasts {P = P} {T = T} (at_any answers)
 at_any_lasts answers v x b n f m = m
 
-module _ {I P T N C V : Type 0} (view : I → View P T) (marks : I → C → V → Type 0) (failures : I → Failures) (post : MutBor I → N → MutBor I → Type 0) where
+module _ {I P T N C V : Type 0} (view : I → View P T) (marks : I → C → V → Type 0) (failures : I → Failures) (returns : I → N → I → Type 0) where
   -- a maker that leaves the stream in place
   pub record MakerLeavesStream : Type 0 where
-    pub kept : (i : MutBor I) (n : N) (l : MutBor I) → post i n l → (view l.now ≡ view i.now) × Passes (marks i.now) (marks l.now) (failures i.now) (failures l.now) × (failures l.now ≡ failures i.now)
+    pub kept : (i : I) (n : N) (l : I) → returns i n l → (view l ≡ view i) × Passes (marks i) (marks l) (failures i) (failures l) × (failures l ≡ failures i)
 
-module _ {I P T N C V F : Type 0} (view : I → View P T) (marks : I → C → V → Type 0) (failures : I → Failures) (g : Shared F (MutBor I × Unit {0}) (N × (MutBor I × Unit {0}))) where
+module _ {I P T N C V F : Type 0} (view : I → View P T) (marks : I → C → V → Type 0) (failures : I → Failures) (callable : F → Unit {0} → I → Type 0) (returns : F → Unit {0} → I → N → I → Type 0) where
   -- made for some stream by a function of this type that leaves each in place
   abbrev pub by_factory : (N → Type 0) → N → Type 0
-  by_factory lawful = MadeBySome (λ f. always_fn g f × MakerLeavesStream view marks failures (λ i n l. g.post f (i, tt) (n, (l, tt)))) (λ f n. (i : MutBor I) × (l : MutBor I) × g.post f (i, tt) (n, (l, tt))) lawful
+  by_factory lawful = MadeBySome (λ f. ((i : I) → callable f tt i) × MakerLeavesStream view marks failures (returns f tt)) (λ f n. (i : I) × (l : I) × returns f tt i n l) lawful
 
-module _ {I P T N : Type 0} (view : I → View P T) (post : MutBor I → N → MutBor I → Type 0) where
+module _ {I P T N : Type 0} (view : I → View P T) (returns : I → N → I → Type 0) where
   -- answered for a stream that stands so, or for one that goes on so
   pub record MadeAt (v : View P T) (n : N) : Type 0 where
-    pub shown : MutBor I
-    pub left : MutBor I
-    pub met : post shown n left
+    pub input : I
+    pub left : I
+    pub met : returns input n left
     pub more : List T
     pub mark : Bool
-    pub follows : MayFollow (view shown.now).is_open more mark
-    pub is : v ≡ extended more mark (view shown.now)
+    pub follows : MayFollow (view input).is_open more mark
+    pub is : v ≡ extended more mark (view input)
 
-  -- answered for this very stream, which is left so
-  pub record MadeFor (input left : I) (n : N) : Type 0 where
-    pub shown : MutBor I
-    pub given : shown.now ≡ input
-    pub back : MutBor I
-    pub leaves : back.now ≡ left
-    pub met : post shown n back
-
-  pub made_there : (shown left : MutBor I) (n : N) → post shown n left → MadeAt (view shown.now) n
-  made_there shown left n m = record { shown = shown; left = left; met = m; more = []; mark = (view shown.now).is_open; follows = follows_none T (view shown.now).is_open; is = sym (extended_none (view shown.now)) }
-
-  pub made_at_of_for : (input left : I) (n : N) → MadeFor input left n → MadeAt (view input) n
-  made_at_of_for input left n m = subst (λ i. MadeAt (view i) n) m.given (made_there m.shown m.back n m.met)
+  pub made_there : (input left : I) (n : N) → returns input n left → MadeAt (view input) n
+  made_there input left n m = record { input = input; left = left; met = m; more = []; mark = (view input).is_open; follows = follows_none T (view input).is_open; is = sym (extended_none (view input)) }
 
   follows_on : (a b c : Bool) (x y : List T) → MayFollow a x b → MayFollow b y c → MayFollow a (x ++ y) c
   follows_on true b c x y f g = tt
@@ -106,13 +93,13 @@ module _ {I P T N : Type 0} (view : I → View P T) (post : MutBor I → N → M
 
   pub made_at_lasts : Lasts MadeAt
   made_at_lasts v x b n f m = record {
-    shown = m.shown;
+    input = m.input;
     left = m.left;
     met = m.met;
     more = m.more ++ x;
     mark = b;
-    follows = follows_on (view m.shown.now).is_open m.mark b m.more x m.follows (rw (sym (ap (λ (u : View P T). u.is_open) m.is)) f);
-    is = ap (extended x b) m.is ∙ ap (λ us. record { position = (view m.shown.now).position; unread = us; is_open = b }) (append_assoc (view m.shown.now).unread m.more x);
+    follows = follows_on (view m.input).is_open m.mark b m.more x m.follows (rw (sym (ap (λ (u : View P T). u.is_open) m.is)) f);
+    is = ap (extended x b) m.is ∙ ap (λ us. record { position = (view m.input).position; unread = us; is_open = b }) (append_assoc (view m.input).unread m.more x);
   }
 
 -- parsers that may be made at one place have one outcome there, but for the value

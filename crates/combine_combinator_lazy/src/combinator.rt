@@ -43,7 +43,7 @@ pub fn lazy<F>(maker: F) -> Lazy<F>
 
 /// Parses as the parser that `maker` returns for the stream where a parse begins.
 ///
-/// `maker: Fn(&mut Input) -> N, N: Parser<Input>`.
+/// `maker: Fn(&mut Input) -> N, N: Parser<Input>`, or a `MutFunction`.
 ///
 /// The maker has to leave the stream in place. A call that begins afresh parses as [`make_and_parse`](crate::laws::make_and_parse) does.
 ///

@@ -1,10 +1,10 @@
 //! A parser that was made, and what is kept of it.
 ghost use Rattle.std.specs.Prelude.{◌≡◌, true};
-ghost use Rattle.combine_base.specs.Stream.Calls.{Passes};
 ghost use Rattle.combine_combinator_lazy.specs.MadeCalls.{CalledMade, RunsMade};
-ghost use Rattle.combine_combinator_lazy.specs.MadeParsers.{MakerLeavesStream, MadeAt, MadeFor};
+ghost use Rattle.combine_combinator_lazy.specs.MadeParsers.{MakerLeavesStream, MadeAt};
 
 use combine_base::error::ParseResult;
+use combine_base::function::MutFunction;
 use combine_base::parser::{Calls, ParseMode, Parser};
 use combine_base::stream::{Stream, needs_more};
 
@@ -87,36 +87,28 @@ pub fn resume_made<Input: Stream, N: Parser<Input> + Drop, M: ParseMode>(
     run_made(mode, input, from, state)
 }
 
-// Asks a maker that leaves the stream in place.
-#[inline(always)]
-fn ask<Input: Stream, N, F: Fn(&mut Input) -> N>(maker: &F, input: &mut Input) -> N
-    requires callable { F.IsAlwaysCallable maker.now }
-    requires in_place { MakerLeavesStream Input.view Input.marks Input.failures (λ i n l. F.post maker.now i n l) }
-    ensures made { MadeFor Input.view (λ i n l. F.post maker.now i n l) input.old input.new result }
-    ensures passes { Passes (Input.marks input.old) (Input.marks input.new) (Input.failures input.old) (Input.failures input.new) }
-    ensures view { Input.view input.new ≡ Input.view input.old }
-    ensures failures { Input.failures input.new ≡ Input.failures input.old }
-{
-    maker(input)
-}
-
 /// Asks a maker that leaves the stream in place, and runs the parser that it returns from its beginning.
 ///
 /// Need of more is kept in `state`.
 #[inline(always)]
-pub fn make_and_run<Input: Stream, N: Parser<Input> + Drop, F: Fn(&mut Input) -> N, M: ParseMode>(
+pub fn make_and_run<
+    Input: Stream,
+    N: Parser<Input> + Drop,
+    F: MutFunction<(), Input, Output = N>,
+    M: ParseMode,
+>(
     maker: &F,
     mode: M,
     input: &mut Input,
     state: &mut MadeState<N, N::PartialState>,
 ) -> ParseResult<N::Output, Input::Error>
-    requires callable { F.IsAlwaysCallable maker.now }
-    requires in_place { MakerLeavesStream Input.view Input.marks Input.failures (λ i n l. F.post maker.now i n l) }
-    requires lawful { (n : N) → MadeAt Input.view (λ i n l. F.post maker.now i n l) (Input.view input.old) n → N.lawful n }
+    requires callable { F.callable maker.now tt input.old }
+    requires in_place { MakerLeavesStream Input.view Input.marks Input.failures (F.returns maker.now tt) }
+    requires lawful { (n : N) → MadeAt Input.view (F.returns maker.now tt) (Input.view input.old) n → N.lawful n }
     requires fresh { state.old ≡ MadeState.Unmade }
-    ensures { RunsMade N.Parser Input.StreamOnce Input.Error.observers N.PartialState.is_default (λ i n l. F.post maker.now i n l) input.old input.new state.new result }
+    ensures { RunsMade N.Parser Input.StreamOnce Input.Error.observers N.PartialState.is_default (F.returns maker.now tt) input.old input.new state.new result }
 {
-    let parser = ask(maker, input);
+    let parser = maker.call_mut((), input);
     let made = Made {
         parser,
         state: N::PartialState::default(),

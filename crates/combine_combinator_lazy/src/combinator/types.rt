@@ -8,35 +8,10 @@ ghost use Rattle.combine_combinator_lazy.specs.MadeParsers.{Adds, MadeBySome, Ma
 pub use super::made::{Made, MadeState};
 use super::made::{make_and_run, resume_made, run_made};
 use combine_base::error::{ErrorOffset, ParseResult, Tracked};
-use combine_base::function::Maker;
+use combine_base::function::{Maker, MutFunction};
 use combine_base::parser::{Outputs, ParseMode, Parser};
 use combine_base::sequence::take_state;
 use combine_base::stream::Stream;
-
-/// A function that makes a parser for a stream. Our own.
-///
-/// By it the value of a [`Factory`] is known without its maker's signature, of which an impl of `Outputs` can say nothing.
-pub trait MakesAt<Input> {
-    /// The parser that it makes.
-    type Made;
-
-    ghost callable: { Self → Type 0 };
-
-    /// Makes a parser for that stream.
-    fn make_at(&self, input: &mut Input) -> Self::Made
-        requires { callable self.now };
-}
-
-impl<Input, N, F: Fn(&mut Input) -> N> MakesAt<Input> for F {
-    type Made = N;
-
-    ghost callable = { λ f. F.IsAlwaysCallable f };
-
-    #[inline(always)]
-    fn make_at(&self, input: &mut Input) -> N {
-        self(input)
-    }
-}
 
 /// The parser of [`lazy`](crate::combinator::lazy).
 #[derive(Clone, Copy, Drop)]
@@ -104,31 +79,32 @@ impl<Input: Stream, N: Parser<Input> + Drop, F: Maker<Output = N>> Parser<Input>
 #[derive(Clone, Copy, Drop)]
 pub struct Factory<F>(pub(crate) F);
 
-impl<Input, F: MakesAt<Input>> Outputs<Input> for Factory<F>
+impl<Input, F: MutFunction<(), Input>> Outputs<Input> for Factory<F>
 where
-    F::Made: Outputs<Input>,
+    F::Output: Outputs<Input>,
 {
-    type Output = <F::Made as Outputs<Input>>::Output;
+    type Output = <F::Output as Outputs<Input>>::Output;
 }
 
-impl<Input: Stream, N: Parser<Input> + Drop, F: Fn(&mut Input) -> N> Parser<Input> for Factory<F> {
+impl<Input: Stream, N: Parser<Input> + Drop, F: MutFunction<(), Input, Output = N>> Parser<Input>
+    for Factory<F> {
     type PartialState = MadeState<N, N::PartialState>;
 
-    ghost lawful = { λ p. F.IsAlwaysCallable (factory_maker p) × MakerLeavesStream Input.view Input.marks Input.failures (λ i n l. F.post (factory_maker p) i n l) × ((v : View Input.Position Input.Token) (n : N) → MadeAt Input.view (λ i n l. F.post (factory_maker p) i n l) v n → N.lawful n) };
+    ghost lawful = { λ p. ((i : Input) → F.callable (factory_maker p) tt i) × MakerLeavesStream Input.view Input.marks Input.failures (F.returns (factory_maker p) tt) × ((v : View Input.Position Input.Token) (n : N) → MadeAt Input.view (F.returns (factory_maker p) tt) v n → N.lawful n) };
 
-    ghost determined = { λ p. ((n : N) → by_factory Input.view Input.marks Input.failures F.Fn N.lawful n → N.determined n) × MakesOne (MadeAt Input.view (λ i n l. F.post (factory_maker p) i n l)) (λ n. (N.meaning n).whole) };
+    ghost determined = { λ p. ((n : N) → by_factory Input.view Input.marks Input.failures F.callable F.returns N.lawful n → N.determined n) × MakesOne (MadeAt Input.view (F.returns (factory_maker p) tt)) (λ n. (N.meaning n).whole) };
 
-    ghost valid = { valid_made (KeptOf N.lawful N.meaning (by_factory Input.view Input.marks Input.failures F.Fn N.lawful)) N.valid };
+    ghost valid = { valid_made (KeptOf N.lawful N.meaning (by_factory Input.view Input.marks Input.failures F.callable F.returns N.lawful)) N.valid };
 
-    ghost meaning = { λ p. made_meaning (MadeAt Input.view (λ i n l. F.post (factory_maker p) i n l)) (by_factory Input.view Input.marks Input.failures F.Fn N.lawful) N.meaning AddsNothing };
+    ghost meaning = { λ p. made_meaning (MadeAt Input.view (F.returns (factory_maker p) tt)) (by_factory Input.view Input.marks Input.failures F.callable F.returns N.lawful) N.meaning AddsNothing };
 
     ghost parts = { λ p. 1 };
 
-    ghost default_valid = { is_unmade_valid (KeptOf N.lawful N.meaning (by_factory Input.view Input.marks Input.failures F.Fn N.lawful)) N.valid };
+    ghost default_valid = { is_unmade_valid (KeptOf N.lawful N.meaning (by_factory Input.view Input.marks Input.failures F.callable F.returns N.lawful)) N.valid };
 
-    ghost laws = { λ p l. made_is_meaning _ (by_factory Input.view Input.marks Input.failures F.Fn N.lawful) N.meaning _ N.lawful (made_at_lasts Input.view (λ i n l. F.post (factory_maker p) i n l)) N.laws l.2 };
+    ghost laws = { λ p l. made_is_meaning _ (by_factory Input.view Input.marks Input.failures F.callable F.returns N.lawful) N.meaning _ N.lawful (made_at_lasts Input.view (F.returns (factory_maker p) tt)) N.laws l.2 };
 
-    ghost single = { λ p l d. made_means_one _ (by_factory Input.view Input.marks Input.failures F.Fn N.lawful) N.meaning _ N.lawful (λ n i. N.single n (i.all n i.made) (d.0 n i)) d.1 };
+    ghost single = { λ p l d. made_means_one _ (by_factory Input.view Input.marks Input.failures F.callable F.returns N.lawful) N.meaning _ N.lawful (λ n i. N.single n (i.all n i.made) (d.0 n i)) d.1 };
 
     #[inline(always)]
     fn parse_mode<M: ParseMode>(

@@ -1,4 +1,4 @@
-use Rattle.combine_combinator_lazy.specs.MadeParsers.{made_at_of_for}
+use Rattle.combine_combinator_lazy.specs.MadeParsers.{made_there}
 use Rattle.combine_combinator_lazy.proofs.MadeAnswers.{refuses_made, starts_made}
 use Rattle.combine_combinator_lazy.proofs.laws.make_and_parse.Goals as goal
 
@@ -8,7 +8,7 @@ make_and_run-requires-clause-lawful g c = λ n m. c.requires.2 _ n m
 pub returns : goal.returns
 returns g c =
     let run = c.make_and_run.ensures in
-    let lawful = c.requires.2 _ _ (made_at_of_for _ _ _ _ _ run.made) in
+    let lawful = c.requires.2 _ _ (made_there _ _ _ _ _ run.made) in
     record {
       asked = run.asked;
       parser = run.parser;
