@@ -10,6 +10,7 @@ pub mod types;
 
 use answers::{accepted, mismatch, no_more, pass_list_items, put_back};
 use combine_base::error::{Info, ParseResult};
+use combine_base::function::Compare;
 use combine_base::parser::ParseMode;
 use combine_base::stream::{Kind, Stream, StreamOnce, ends_open};
 use std::marker::PhantomData;
@@ -17,7 +18,7 @@ use types::{Tokens, TokensCmp, TokensState};
 
 /// Takes the tokens of a list, one after another.
 ///
-/// `cmp: Fn(T::Item, Input::Token) -> bool, T: Clone + IntoIterator`.
+/// `cmp: Fn(T::Item, Input::Token) -> bool, T: Clone + IntoIterator`, or a `Compare`.
 ///
 /// Its value is a clone of the list.
 ///
@@ -54,7 +55,7 @@ where
 
 /// Takes the tokens of a list as `tokens` does, but says nothing of what was expected.
 ///
-/// `cmp: Fn(T::Item, Input::Token) -> bool, T: Clone + IntoIterator`.
+/// `cmp: Fn(T::Item, Input::Token) -> bool, T: Clone + IntoIterator`, or a `Compare`.
 ///
 /// The error of a committed mismatch says only which token stands there.
 ///
@@ -73,7 +74,7 @@ pub fn tokens_cmp<C, T, Input>(tokens: T, cmp: C) -> TokensCmp<C, T, Input>
 
 /// Makes one call of a parser of a list of tokens, whose value is a clone of `value`. Our own.
 ///
-/// `expected` is what the error of a committed mismatch says was expected, if it says so. `cmp` may always be called. An iterator of each clone of the list has to give equally many items, fewer than 2^64.
+/// `expected` is what the error of a committed mismatch says was expected, if it says so. `cmp` may be called on every item and token. An iterator of each clone of the list has to give equally many items, fewer than 2^64.
 ///
 /// # Errors
 ///
@@ -89,15 +90,15 @@ pub fn match_list<'a, C, T, V, Input: Stream, M: ParseMode>(
     state: &mut TokensState,
 ) -> ParseResult<V, Input::Error>
 where
-    C: Fn(T::Item, Input::Token) -> bool,
+    C: Compare<T::Item, Input::Token>,
     T: Clone + IntoIterator,
     T::Item: Drop,
     V: Clone,
-    requires callable { C.IsAlwaysCallable cmp.now }
+    requires callable { (x : T.Item) (t : Input.Token) → C.callable cmp.now x t }
     requires list { IsIterated T.is_clone T.into_iter_gives T.IntoIter.next_gives list.now T.IntoIter.can_next T.IntoIter.remaining }
     ensures passes { Passes (Input.marks input.old) (Input.marks input.new) (Input.failures input.old) (Input.failures input.new) }
-    ensures answers { MatchesCall Input.StreamOnce Input.Error.observers T.Clone T.IntoIterator T.IntoIter.Iterator list.now C.Fn cmp.now V.Clone value.now expected.entry (M.first mode) state.old state.new input.old input.new result }
-    ensures refuses { MismatchesCall Input.StreamOnce Input.Error.observers T.Clone T.IntoIterator T.IntoIter.Iterator list.now C.Fn cmp.now expected.entry (M.first mode) state.old input.old input.new result }
+    ensures answers { MatchesCall Input.StreamOnce Input.Error.observers T.Clone T.IntoIterator T.IntoIter.Iterator list.now (C.returns cmp.now) V.Clone value.now expected.entry (M.first mode) state.old state.new input.old input.new result }
+    ensures refuses { MismatchesCall Input.StreamOnce Input.Error.observers T.Clone T.IntoIterator T.IntoIter.Iterator list.now (C.returns cmp.now) expected.entry (M.first mode) state.old input.old input.new result }
 {
     let mut matched = state.begin(!mode.is_first());
     let start = input.checkpoint();
@@ -113,7 +114,7 @@ where
     'items: for item in items {
         match input.uncons() {
             Ok(token) => {
-                if !cmp(item, token) {
+                if !cmp.fits(item, token) {
                     if matched > 0 {
                         let error = mismatch(token, expected, position, input);
                         return ParseResult::CommitErr(error);

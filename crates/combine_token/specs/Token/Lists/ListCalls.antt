@@ -1,6 +1,5 @@
 -- one call of a parser of a list of tokens
 use denote.Ref.{Bor}
-use Rattle.std.specs.Fn.{Shared}
 use Rattle.std.specs.Option.{option_copied}
 use Rattle.std.specs.Prelude.{◌≡◌, Bool, Option}
 use Rattle.std.specs.declared.clone.Clone as clone
@@ -29,10 +28,10 @@ module _ {Input T R P E V : Type 0} (i : stream.Ghosts Input T R P E) (observers
   abbrev pub ReasonedListCall : (first : Bool) (from : TokensState) (input after : Input) → ParseResult V E → Type 0
   ReasonedListCall first from input after result = Reasoned observers.kind (i.view after).is_open (RefusesList observers l expected (begins_at_item matched_before first from) (i.view input) (i.view after)) result
 
--- a list that is copied and iterated, whose items this function compares with tokens
-module _ {L X It F Input T R P E : Type 0} (i : stream.Ghosts Input T R P E) (observers : Observers T R P E) (copies : clone.Ghosts L) (iterates : into_iterator.Ghosts L X It) (gives : iterator.Ghosts It X) (list : L) (g : Shared F (X × (T × Unit {0})) Bool) (compares : F) where
+-- a list that is copied and iterated, whose items are compared with tokens
+module _ {L X It Input T R P E : Type 0} (i : stream.Ghosts Input T R P E) (observers : Observers T R P E) (copies : clone.Ghosts L) (iterates : into_iterator.Ghosts L X It) (gives : iterator.Ghosts It X) (list : L) (compares : X → T → Bool → Type 0) where
   abbrev items : TokenList T
-  items = iterated_tokens copies.is_clone iterates.into_iter_gives gives.next_gives list (λ x t b. g.post compares (x, (t, tt)) b)
+  items = iterated_tokens copies.is_clone iterates.into_iter_gives gives.next_gives list compares
 
   -- what a call answers, whose value is a clone of this one
   abbrev pub MatchesCall : {V : Type 0} (clones : clone.Ghosts V) (value : V) (expected : Option (Bor (Info T R))) (first : Bool) (from left : TokensState) (input after : Input) → ParseResult V E → Type 0

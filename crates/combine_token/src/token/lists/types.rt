@@ -8,6 +8,7 @@ ghost use Rattle.combine_token.specs.Token.Lists.IteratedLists.{IsIterated, iter
 
 use crate::token::lists::match_list;
 use combine_base::error::{ErrorOffset, Info, ParseError, ParseResult, Tracked};
+use combine_base::function::Compare;
 use combine_base::parser::{Outputs, ParseMode, Parser};
 use combine_base::stream::Stream;
 use std::alloc::AllocError;
@@ -65,20 +66,20 @@ impl<Input, C, E, T: Drop> Outputs<Input> for Tokens<C, E, T, Input> {
     type Output = T;
 }
 
-impl<Input: Stream, C: Fn(T::Item, Input::Token) -> bool, T: Clone + IntoIterator> Parser<Input>
+impl<Input: Stream, C: Compare<T::Item, Input::Token>, T: Clone + IntoIterator> Parser<Input>
     for Tokens<C, Info<Input::Token, Input::Range>, T, Input>
 where
     T::Item: Drop,
 {
     type PartialState = TokensState;
 
-    ghost lawful = { λ p. C.IsAlwaysCallable p.cmp × IsIterated T.is_clone T.into_iter_gives T.IntoIter.next_gives p.tokens T.IntoIter.can_next T.IntoIter.remaining };
+    ghost lawful = { λ p. ((x : T.Item) (t : Input.Token) → C.callable p.cmp x t) × IsIterated T.is_clone T.into_iter_gives T.IntoIter.next_gives p.tokens T.IntoIter.can_next T.IntoIter.remaining };
 
-    ghost determined = { λ p. ComparesOnce (iterated_tokens T.is_clone T.into_iter_gives T.IntoIter.next_gives p.tokens (λ x t b. C.post p.cmp x t b)) };
+    ghost determined = { λ p. ComparesOnce (iterated_tokens T.is_clone T.into_iter_gives T.IntoIter.next_gives p.tokens (C.returns p.cmp)) };
 
     ghost valid = { λ s. Unit {0} };
 
-    ghost meaning = { λ p. token_list Input.Error.observers (iterated_tokens T.is_clone T.into_iter_gives T.IntoIter.next_gives p.tokens (λ x t b. C.post p.cmp x t b)) (Some p.expected) (T.is_clone p.tokens) (λ s. s.matched) (T.is_infallible p.tokens) (Only (Expected (shown p.expected))) };
+    ghost meaning = { λ p. token_list Input.Error.observers (iterated_tokens T.is_clone T.into_iter_gives T.IntoIter.next_gives p.tokens (C.returns p.cmp)) (Some p.expected) (T.is_clone p.tokens) (λ s. s.matched) (T.is_infallible p.tokens) (Only (Expected (shown p.expected))) };
 
     ghost parts = { λ _. 1 };
 
@@ -132,20 +133,20 @@ impl<Input, C, T: Drop> Outputs<Input> for TokensCmp<C, T, Input> {
     type Output = T;
 }
 
-impl<Input: Stream, C: Fn(T::Item, Input::Token) -> bool, T: Clone + IntoIterator> Parser<Input>
+impl<Input: Stream, C: Compare<T::Item, Input::Token>, T: Clone + IntoIterator> Parser<Input>
     for TokensCmp<C, T, Input>
 where
     T::Item: Drop,
 {
     type PartialState = TokensState;
 
-    ghost lawful = { λ p. C.IsAlwaysCallable p.cmp × IsIterated T.is_clone T.into_iter_gives T.IntoIter.next_gives p.tokens T.IntoIter.can_next T.IntoIter.remaining };
+    ghost lawful = { λ p. ((x : T.Item) (t : Input.Token) → C.callable p.cmp x t) × IsIterated T.is_clone T.into_iter_gives T.IntoIter.next_gives p.tokens T.IntoIter.can_next T.IntoIter.remaining };
 
-    ghost determined = { λ p. ComparesOnce (iterated_tokens T.is_clone T.into_iter_gives T.IntoIter.next_gives p.tokens (λ x t b. C.post p.cmp x t b)) };
+    ghost determined = { λ p. ComparesOnce (iterated_tokens T.is_clone T.into_iter_gives T.IntoIter.next_gives p.tokens (C.returns p.cmp)) };
 
     ghost valid = { λ s. Unit {0} };
 
-    ghost meaning = { λ p. token_list Input.Error.observers (iterated_tokens T.is_clone T.into_iter_gives T.IntoIter.next_gives p.tokens (λ x t b. C.post p.cmp x t b)) None (T.is_clone p.tokens) (λ s. s.matched) (T.is_infallible p.tokens) AddsNothing };
+    ghost meaning = { λ p. token_list Input.Error.observers (iterated_tokens T.is_clone T.into_iter_gives T.IntoIter.next_gives p.tokens (C.returns p.cmp)) None (T.is_clone p.tokens) (λ s. s.matched) (T.is_infallible p.tokens) AddsNothing };
 
     ghost parts = { λ _. 1 };
 

@@ -37,17 +37,17 @@ pub returns-then-matched-gt0-clause-answers : goal.returns-then-matched-gt0-clau
 returns-then-matched-gt0-clause-answers g c =
     let i = c.items.invariant in
     let there = stands_there i.reached c.in-Some.ensures.steps in
-    let n = c.if-not-cmp.ensures in
+    let n = c.if-not-fits.ensures in
     match_refused _ _ _ _ _ _ _ _ _ _ _ _ i.arrived i.cleared (_, there) _ _ _ (_, there, n) c.in-Ok-uncons.ensures.read.is _ (sym (lt-ltb 0 _ c.if-matched-gt0.true)) (mismatch_told _ _ _ _ _ c.mismatch-error.ensures) refl refl
 
-pub returns-then-not-cmp-clause-passes : goal.returns-then-not-cmp-clause-passes
-returns-then-not-cmp-clause-passes g c = passes_more c.items.invariant.passes (passes_more c.uncons.ensures.passes c.put_back.ensures.passes)
+pub returns-then-not-fits-clause-passes : goal.returns-then-not-fits-clause-passes
+returns-then-not-fits-clause-passes g c = passes_more c.items.invariant.passes (passes_more c.uncons.ensures.passes c.put_back.ensures.passes)
 
-pub returns-then-not-cmp-clause-answers : goal.returns-then-not-cmp-clause-answers
-returns-then-not-cmp-clause-answers g c =
+pub returns-then-not-fits-clause-answers : goal.returns-then-not-fits-clause-answers
+returns-then-not-fits-clause-answers g c =
     let i = c.items.invariant in
     let there = stands_there i.reached c.in-Some.ensures.steps in
-    let n = c.if-not-cmp.ensures in
+    let n = c.if-not-fits.ensures in
     let a = i.passes.resets in
     let b = c.uncons.ensures.passes.resets in
     let o = g.met.Input.ResetStream.lasts _ _ _ _ c.uncons.ensures.passes.marks (g.met.Input.ResetStream.lasts _ _ _ _ i.passes.marks c.checkpoint-start.ensures.stands) in
@@ -78,7 +78,7 @@ returns-in-Err-uncons-clause-answers g c =
 pub items-preserved : goal.items-preserved
 items-preserved g c =
     let i = c.items.invariant in
-    let n = c.if-not-cmp.ensures in
+    let n = c.if-not-fits.ensures in
     let s = c.in-Some.ensures.steps in
     let there = stands_there i.reached s in
     record {
@@ -104,14 +104,14 @@ pub returns-then-matched-gt0-clause-refuses : goal.returns-then-matched-gt0-clau
 returns-then-matched-gt0-clause-refuses g c =
     let i = c.items.invariant in
     let there = stands_there i.reached c.in-Some.ensures.steps in
-    let n = c.if-not-cmp.ensures in
+    let n = c.if-not-fits.ensures in
     mismatch_reasons _ _ _ _ _ _ _ _ _ _ _ _ _ _ _ i.arrived (_, there) _ _ _ _ (_, there, n) c.in-Ok-uncons.ensures.read.is _ (sym (lt-ltb 0 _ c.if-matched-gt0.true)) (rw c.position-position.ensures at c.mismatch-error.ensures)
 
-pub returns-then-not-cmp-clause-refuses : goal.returns-then-not-cmp-clause-refuses
-returns-then-not-cmp-clause-refuses g c =
+pub returns-then-not-fits-clause-refuses : goal.returns-then-not-fits-clause-refuses
+returns-then-not-fits-clause-refuses g c =
     let i = c.items.invariant in
     let there = stands_there i.reached c.in-Some.ensures.steps in
-    let n = c.if-not-cmp.ensures in
+    let n = c.if-not-fits.ensures in
     put_back_reasons _ _ _ _ _ _ _ _ _ _ _ _ _ _ _ i.arrived (_, there) _ _ _ _ (_, there, n) c.in-Ok-uncons.ensures.read.is _ (sym (le-ltb _ _ c.if-matched-gt0.false)) (rw c.position-position.ensures at c.put_back.ensures.refuses)
 
 pub returns-then-ends_open-clause-refuses : goal.returns-then-ends_open-clause-refuses

@@ -10,7 +10,7 @@ use Rattle.combine_token.proofs.token.lists.match_list.Given as goal
 
 abbrev pub invariant-items : goal.invariant-items
 invariant-items g l =
-    let list = iterated_tokens g.T.Clone.is_clone g.T.IntoIterator.into_iter_gives g.T.IntoIter.Iterator.next_gives l.fn.list (λ x t b. goal.C-post g l.fn.cmp x t b) in
+    let list = iterated_tokens g.T.Clone.is_clone g.T.IntoIterator.into_iter_gives g.T.IntoIter.Iterator.next_gives l.fn.list (g.C.Compare.returns l.fn.cmp) in
     record {
       passes : Passes (g.Input.StreamOnce.marks l.fn.input) (g.Input.StreamOnce.marks l.input) (g.Input.StreamOnce.failures l.fn.input) (g.Input.StreamOnce.failures l.input);
       cleared : l.state.matched ≡ 0;

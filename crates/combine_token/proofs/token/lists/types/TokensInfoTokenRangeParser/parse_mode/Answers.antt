@@ -15,4 +15,4 @@ pub returns-clause-answers : goal.returns-clause-answers
 returns-clause-answers g c = answers_cloned _ _ _ _ _ _ _ _ _ _ c.match_list.ensures.answers
 
 pub returns-clause-refuses : goal.returns-clause-refuses
-returns-clause-refuses g c = list_reasons g.Input.Error.ParseError.observers (iterated_tokens g.T.Clone.is_clone g.T.IntoIterator.into_iter_gives g.T.IntoIter.Iterator.next_gives c.args.self.now.tokens (λ x t b. goal.C-post g c.args.self.now.cmp x t b)) (Some c.args.self.now.expected) (g.T.Clone.is_clone c.args.self.now.tokens) matched_before (g.T.Clone.is_infallible c.args.self.now.tokens) (Only (Expected (shown c.args.self.now.expected))) (g.M.ParseMode.first c.args.mode) c.args.state.now _ _ _ c.match_list.ensures.refuses
+returns-clause-refuses g c = list_reasons g.Input.Error.ParseError.observers (iterated_tokens g.T.Clone.is_clone g.T.IntoIterator.into_iter_gives g.T.IntoIter.Iterator.next_gives c.args.self.now.tokens (g.C.Compare.returns c.args.self.now.cmp)) (Some c.args.self.now.expected) (g.T.Clone.is_clone c.args.self.now.tokens) matched_before (g.T.Clone.is_infallible c.args.self.now.tokens) (Only (Expected (shown c.args.self.now.expected))) (g.M.ParseMode.first c.args.mode) c.args.state.now _ _ _ c.match_list.ensures.refuses
