@@ -11,7 +11,7 @@ use types::TakeFn;
 
 /// Takes the items before the place that the function finds in the range that is unread.
 ///
-/// `searcher: Fn(Input::Range) -> T, T: Into<TakeRange>`.
+/// `searcher: Fn(Input::Range) -> T, T: Into<TakeRange>`, or a `Function`.
 ///
 /// `Found(i)` is the first `i` items, accepted committed, or peeked where `i` is 0. An `Option` is `Found(i)` or `NotFound(0)`.
 ///

@@ -7,6 +7,7 @@ ghost use Rattle.combine_range_search.specs.Search.Searches.{IsOneSearch, IsSear
 
 use crate::absence::{is_nothing, may_grow, not_found, pass_up_to};
 use combine_base::error::{ErrorOffset, ParseResult, Tracked};
+use combine_base::function::Function;
 use combine_base::parser::{Outputs, ParseMode, Parser};
 use combine_base::stream::{Positioned, ResetStream, Stream, StreamOnce};
 use combine_range::distance::Distance;
@@ -160,26 +161,26 @@ where
 #[derive(Clone, Drop)]
 pub struct FindByFn<F>(pub(crate) F);
 
-impl<Input: RangeStream, T: Into<TakeRange>, F: Fn(Input::Range) -> T> Searcher<Input>
+impl<Input: RangeStream, T: Into<TakeRange>, F: Function<Input::Range, Output = T>> Searcher<Input>
     for FindByFn<F>
 where
     Input::Range: Range,
 {
     ghost use Rattle.combine_range_search.specs.Search.TakeFn.{asking, asking_is_search, answers_as};
 
-    ghost callable = { λ s. F.IsAlwaysCallable s.0 };
+    ghost callable = { λ s. (range : _) → F.callable s.0 range };
 
-    ghost search = { λ s. asking Input.size Input.spells (answers_as (F.post s.0) T.converts) };
+    ghost search = { λ s. asking Input.size Input.spells (answers_as (F.returns s.0) T.converts) };
 
     /// However the function is asked, the answers agree.
-    ghost settled = { λ s. IsOneSearch (asking Input.size Input.spells (answers_as (F.post s.0) T.converts)) };
+    ghost settled = { λ s. IsOneSearch (asking Input.size Input.spells (answers_as (F.returns s.0) T.converts)) };
 
     #[inline(always)]
     fn look(&self, range: Input::Range) -> TakeRange {
-        (self.0)(range).into()
+        self.0.call(range).into()
     }
 
-    ghost stays = { λ s. asking_is_search Input.size Input.spells (answers_as (F.post s.0) T.converts) };
+    ghost stays = { λ s. asking_is_search Input.size Input.spells (answers_as (F.returns s.0) T.converts) };
 
     ghost one = { λ s d. d };
 }
