@@ -1,13 +1,13 @@
 -- lists whose items are given one after another, and functions that are asked for a parser of each
-use denote.Ref.{Bor, MutBor}
 use Rattle.std.specs.Prelude.{◌≡◌, List, [], ◌∷◌, Option, Some, None, refl}
-use Rattle.std.specs.Fn.{Shared, always_fn}
 use Rattle.std.specs.Iterator.{Count, IsFinite}
 use Rattle.std.specs.declared.clone.Clone as clone
 use Rattle.std.specs.declared.iter.IntoIterator as into_iterator
 use Rattle.std.specs.declared.iter.Iterator as iterator
 use Rattle.combine_base.specs.Stream.View.{View}
 use Rattle.combine_base.specs.Stream.Calls.{Passes}
+use Rattle.combine_base.specs.declared.function.Lent.{Lent}
+use Rattle.combine_base.specs.declared.function.MutFunction as function
 use Rattle.combine_base.specs.declared.stream.Failures.{Failures}
 use Rattle.combine_base.specs.declared.stream.StreamOnce as stream
 use Rattle.combine_repeat_iterate.specs.declared.repeat.types.Iterate.{Iterate}
@@ -60,18 +60,20 @@ module _ {It I J : Type 0} (copies : clone.Ghosts J) (iterates : into_iterator.G
   abbrev pub ListsOne : Type 0
   ListsOne = (xs ys : List I) → lists xs → lists ys → xs ≡ ys
 
-module _ {I N Input : Type 0} (post : Bor I → MutBor Input → N → MutBor Input → Type 0) where
+module _ {I N Input : Type 0} (returns : Lent I → Input → N → Input → Type 0) where
   -- the function may answer this parser for the item
   pub record AskedFor (x : I) (n : N) : Type 0 where
-    pub shown : Bor I
-    pub shows : shown.now ≡ x
-    pub input : MutBor Input
-    pub left : MutBor Input
-    pub met : post shown input n left
+    pub input : Input
+    pub left : Input
+    pub met : returns (record { 0 = x }) input n left
 
   -- a function that leaves the stream in place
   pub record AskedLeavesStream {P T C V : Type 0} (view : Input → View P T) (marks : Input → C → V → Type 0) (failures : Input → Failures) : Type 0 where
-    pub kept : (x : Bor I) (i : MutBor Input) (n : N) (l : MutBor Input) → post x i n l → (view l.now ≡ view i.now) × Passes (marks i.now) (marks l.now) (failures i.now) (failures l.now) × (failures l.now ≡ failures i.now)
+    pub kept : (x : I) (i : Input) (n : N) (l : Input) → returns (record { 0 = x }) i n l → (view l ≡ view i) × Passes (marks i) (marks l) (failures i) (failures l) × (failures l ≡ failures i)
+
+-- a function that may be called on every item and every stream
+abbrev pub MayAskAlways : {I Input : Type 0} → (Lent I → Input → Type 0) → Type 0
+MayAskAlways {I = I} {Input = Input} callable = (x : I) (i : Input) → callable (record { 0 = x }) i
 
 -- asked for by a function that is fit, and whose parsers are all lawful
 pub record AskedBySome {F I N : Type 0} (fit : F → Type 0) (answers : F → I → N → Type 0) (lawful : N → Type 0) (n : N) : Type 0 where
@@ -81,18 +83,9 @@ pub record AskedBySome {F I N : Type 0} (fit : F → Type 0) (answers : F → I 
   pub item : I
   pub answered : answers asked item n
 
--- what a function of this type may answer
-abbrev pub asks_item : {F I N Input : Type 0} → Shared F (Bor I × (MutBor Input × Unit {0})) (N × (MutBor Input × Unit {0})) → F → I → N → Type 0
-asks_item g f = AskedFor (λ a i n l. g.post f (a, (i, tt)) (n, (l, tt)))
-
-module _ {F I N Input P T C V : Type 0} (view : Input → View P T) (marks : Input → C → V → Type 0) (failures : Input → Failures) (g : Shared F (Bor I × (MutBor Input × Unit {0})) (N × (MutBor Input × Unit {0}))) where
-  -- asked for by a function of this type that may always be called and leaves the stream in place
-  abbrev pub by_function : (N → Type 0) → N → Type 0
-  by_function lawful = AskedBySome (λ f. always_fn g f × AskedLeavesStream (λ a i n l. g.post f (a, (i, tt)) (n, (l, tt))) view marks failures) (asks_item g) lawful
-
--- the same by the stream
-abbrev pub any_of : {F I N Input T R P E : Type 0} → stream.Ghosts Input T R P E → Shared F (Bor I × (MutBor Input × Unit {0})) (N × (MutBor Input × Unit {0})) → (N → Type 0) → N → Type 0
-any_of i g = by_function i.view i.marks i.failures g
+-- asked for by a function of this type that may always be called and leaves the stream in place
+abbrev pub any_of : {F I N Input T R P E : Type 0} → stream.Ghosts Input T R P E → function.Ghosts F (Lent I) Input N → (N → Type 0) → N → Type 0
+any_of i g lawful = AskedBySome (λ f. MayAskAlways (g.callable f) × AskedLeavesStream (g.returns f) i.view i.marks i.failures) (λ f. AskedFor (g.returns f)) lawful
 
 module _ {It I : Type 0} (can_next : It → Type 0) (remaining : It → Count) (steps : It → Option I → It → Type 0) where
   same_steps : (it : It) (r s : Option I) (f g : It → Type 0) → GivesThen can_next remaining steps it r f → GivesThen can_next remaining steps it s g → r ≡ s

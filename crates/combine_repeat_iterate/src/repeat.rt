@@ -21,7 +21,7 @@ use types::Iterate;
 
 /// Runs for each item of a list, in order, the parser that `f` returns for it, and collects the values in order.
 ///
-/// `f: Fn(&J::Item, &mut Input) -> N, J: Clone + IntoIterator, N: Parser<Input>`.
+/// `f: Fn(&J::Item, &mut Input) -> N, J: Clone + IntoIterator, N: Parser<Input>`, or a `MutFunction`.
 ///
 /// `f` has to leave the stream in place, and every parser that it may return has to be lawful. It is called once for each item, where its turn comes. An iterator of a clone of the list gives the items. The result is accepted without commitment if there are no items, or if no item's parser committed.
 ///

@@ -1,11 +1,12 @@
 //! The parser of `iterate`, and its state.
 ghost use Rattle.combine_base.specs.Parser.KeptParsers.{KeptOf};
-ghost use Rattle.combine_repeat_iterate.specs.ListedItems.{AskedLeavesStream, ListsOne, any_of, asks_item, item_asker, iterator_gives, gives_one, items_part, lists};
+ghost use Rattle.combine_repeat_iterate.specs.ListedItems.{AskedFor, AskedLeavesStream, ListsOne, MayAskAlways, any_of, item_asker, iterator_gives, gives_one, items_part, lists};
 ghost use Rattle.combine_repeat_iterate.specs.ItemParsers.{ItemAnswersOne, iterated, iterated_is_meaning, iterated_means_one, items_start_valid, valid_item};
 
 use super::items::{CollectedItems, Item, parse_item, resume_item};
 pub use super::items::{IterateState, RunningItem};
 use combine_base::error::{ErrorOffset, ParseResult, Tracked, accepted_after};
+use combine_base::function::{Lent, MutFunction};
 use combine_base::parser::{FirstMode, Outputs, ParseMode, Parser};
 use combine_base::repeat::Append;
 use combine_base::sequence::take_state;
@@ -32,7 +33,7 @@ impl<
     Input: Stream,
     J: Clone + IntoIterator,
     N: Parser<Input> + Drop,
-    F: Fn(&J::Item, &mut Input) -> N,
+    F: MutFunction<Lent<J::Item>, Input, Output = N>,
     C: Append<N::Output>,
 > Parser<Input> for Iterate<C, J, F>
 where
@@ -41,13 +42,13 @@ where
 {
     type PartialState = IterateState<C, J::IntoIter, N, N::PartialState>;
 
-    ghost lawful = { λ p. F.IsAlwaysCallable (item_asker p) × AskedLeavesStream (λ a i n l. F.post (item_asker p) a i n l) Input.view Input.marks Input.failures × ((a : _) (n : _) → asks_item F.Fn (item_asker p) a n → N.lawful n) × ((is : _) × lists J.Clone J.IntoIterator J.IntoIter.Iterator (items_part p) is) };
+    ghost lawful = { λ p. MayAskAlways (F.callable (item_asker p)) × AskedLeavesStream (F.returns (item_asker p)) Input.view Input.marks Input.failures × ((a : _) (n : _) → AskedFor (F.returns (item_asker p)) a n → N.lawful n) × ((is : _) × lists J.Clone J.IntoIterator J.IntoIter.Iterator (items_part p) is) };
 
-    ghost determined = { λ p. ItemAnswersOne (asks_item F.Fn (item_asker p)) (λ n. (N.meaning n).whole) × ((n : N) → any_of Input.StreamOnce F.Fn N.lawful n → N.determined n) × ListsOne J.Clone J.IntoIterator J.IntoIter.Iterator (items_part p) };
+    ghost determined = { λ p. ItemAnswersOne (AskedFor (F.returns (item_asker p))) (λ n. (N.meaning n).whole) × ((n : N) → any_of Input.StreamOnce F.MutFunction N.lawful n → N.determined n) × ListsOne J.Clone J.IntoIterator J.IntoIter.Iterator (items_part p) };
 
-    ghost valid = { valid_item (KeptOf N.lawful N.meaning (any_of Input.StreamOnce F.Fn N.lawful)) N.valid (iterator_gives J.IntoIter.Iterator) };
+    ghost valid = { valid_item (KeptOf N.lawful N.meaning (any_of Input.StreamOnce F.MutFunction N.lawful)) N.valid (iterator_gives J.IntoIter.Iterator) };
 
-    ghost meaning = { λ p. iterated Input.step Input.Error.observers (asks_item F.Fn (item_asker p)) (any_of Input.StreamOnce F.Fn N.lawful) N.meaning C.held C.none C.more (iterator_gives J.IntoIter.Iterator) (lists J.Clone J.IntoIterator J.IntoIter.Iterator (items_part p)) (C.heapless × J.is_infallible (items_part p)) };
+    ghost meaning = { λ p. iterated Input.step Input.Error.observers (AskedFor (F.returns (item_asker p))) (any_of Input.StreamOnce F.MutFunction N.lawful) N.meaning C.held C.none C.more (iterator_gives J.IntoIter.Iterator) (lists J.Clone J.IntoIterator J.IntoIter.Iterator (items_part p)) (C.heapless × J.is_infallible (items_part p)) };
 
     ghost parts = { λ _. 1 };
 
@@ -85,7 +86,7 @@ where
                 return accepted_after(collected.committed, collected.values);
             };
             let running = RunningItem {
-                parser: (self.asked)(&item, input),
+                parser: self.asked.call_mut(Lent(item), input),
                 state: N::PartialState::default(),
                 before: collected,
             };

@@ -7,17 +7,16 @@ use Rattle.combine_base.proofs.Parsers.CallStarts.{in_mode}
 use Rattle.combine_repeat_iterate.specs.ItemParsers.{iterated_is_meaning, items_start_valid}
 use Rattle.combine_base.specs.Parser.KeptParsers.{KeptOf}
 use Rattle.combine_base.specs.Sequence.Parts.{valid_from}
-use Rattle.combine_repeat_iterate.specs.ListedItems.{AskedFor, GivesItems, ListsItems, item_asker, by_function, gives_callable, gives_none, gives_one, gives_some, items_part}
+use Rattle.combine_repeat_iterate.specs.ListedItems.{AskedFor, GivesItems, ListsItems, any_of, item_asker, gives_callable, gives_none, gives_one, gives_some, items_part}
 use Rattle.combine_repeat_iterate.specs.declared.repeat.items.IterateState.TheVariants as states
 use Rattle.combine_repeat_iterate.proofs.EachItem.{asked_item_kept, item_goes, item_leaves, item_passes, item_reasons, item_stops, items_end, no_clone, reaches_first_item, runs_first_item, runs_next_item}
-use Rattle.combine_repeat_iterate.proofs.repeat.types.IterateParser.parse_mode.Given as given
 use Rattle.combine_repeat_iterate.proofs.repeat.types.IterateParser.parse_mode.Goals as goal
 use Rattle.combine_repeat_iterate.proofs.repeat.types.IterateParser.parse_mode.Goals.{in-Running+in-Goes, in-Start+in-Ok}
 
 pub resume_item-requires-clause-ready : goal.resume_item-requires-clause-ready
 resume_item-requires-clause-ready g c =
     let iterator = g.J.IntoIter.Iterator in
-    let some = by_function g.Input.StreamOnce.view g.Input.StreamOnce.marks g.Input.StreamOnce.failures g.F.Fn g.N.Parser.lawful in
+    let some = any_of g.Input.StreamOnce g.F.MutFunction g.N.Parser.lawful in
     let at = GivesItems iterator.can_next iterator.remaining iterator.next_gives in
     let v = valid_from (items_start_valid (KeptOf g.N.Parser.lawful g.N.Parser.meaning some) g.N.Parser.valid at) c.in-Running.ensures.from c.requires.valid in
     record { lawful = v.0.is_lawful; valid = v.1 }
@@ -25,7 +24,7 @@ resume_item-requires-clause-ready g c =
 pub returns-in-Stops-clause-valid : goal.returns-in-Stops-clause-valid
 returns-in-Stops-clause-valid g c =
     let iterator = g.J.IntoIter.Iterator in
-    let some = by_function g.Input.StreamOnce.view g.Input.StreamOnce.marks g.Input.StreamOnce.failures g.F.Fn g.N.Parser.lawful in
+    let some = any_of g.Input.StreamOnce g.F.MutFunction g.N.Parser.lawful in
     let at = GivesItems iterator.can_next iterator.remaining iterator.next_gives in
     let v = valid_from (items_start_valid (KeptOf g.N.Parser.lawful g.N.Parser.meaning some) g.N.Parser.valid at) c.in-Running.ensures.from c.requires.valid in
     item_leaves g.N.Parser g.Input.StreamOnce g.Input.Error.ParseError.observers g.N.PartialState.Default.is_default some g.C.Append.held g.C.Append.more g.C.Append.heapless at v.0 v.2 c.resume_item.ensures
@@ -33,8 +32,8 @@ returns-in-Stops-clause-valid g c =
 pub returns-in-Stops-clause-answers : goal.returns-in-Stops-clause-answers
 returns-in-Stops-clause-answers g c =
     let iterator = g.J.IntoIter.Iterator in
-    let answers = AskedFor (λ a i n q. given.F-post g (item_asker c.args.self.now) a i n q) in
-    let some = by_function g.Input.StreamOnce.view g.Input.StreamOnce.marks g.Input.StreamOnce.failures g.F.Fn g.N.Parser.lawful in
+    let answers = AskedFor (g.F.MutFunction.returns (item_asker c.args.self.now)) in
+    let some = any_of g.Input.StreamOnce g.F.MutFunction g.N.Parser.lawful in
     let at = GivesItems iterator.can_next iterator.remaining iterator.next_gives in
     let lists = ListsItems iterator.can_next iterator.remaining iterator.next_gives g.J.Clone.is_clone g.J.IntoIterator.into_iter_gives (items_part c.args.self.now) in
     let heapless = g.C.Append.heapless in
@@ -51,8 +50,8 @@ returns-in-Stops-clause-answers g c =
 pub returns-in-Stops-clause-refuses : goal.returns-in-Stops-clause-refuses
 returns-in-Stops-clause-refuses g c =
     let iterator = g.J.IntoIter.Iterator in
-    let answers = AskedFor (λ a i n q. given.F-post g (item_asker c.args.self.now) a i n q) in
-    let some = by_function g.Input.StreamOnce.view g.Input.StreamOnce.marks g.Input.StreamOnce.failures g.F.Fn g.N.Parser.lawful in
+    let answers = AskedFor (g.F.MutFunction.returns (item_asker c.args.self.now)) in
+    let some = any_of g.Input.StreamOnce g.F.MutFunction g.N.Parser.lawful in
     let at = GivesItems iterator.can_next iterator.remaining iterator.next_gives in
     let lists = ListsItems iterator.can_next iterator.remaining iterator.next_gives g.J.Clone.is_clone g.J.IntoIterator.into_iter_gives (items_part c.args.self.now) in
     let heapless = g.C.Append.heapless in
@@ -72,8 +71,8 @@ returns-in-Err-clause-refuses g c = reasons_fault _ _ _ _ kinds.Memory c.new_err
 pub returns-in-Err-clause-answers : goal.returns-in-Err-clause-answers
 returns-in-Err-clause-answers g c =
     let iterator = g.J.IntoIter.Iterator in
-    let answers = AskedFor (λ a i n q. given.F-post g (item_asker c.args.self.now) a i n q) in
-    let some = by_function g.Input.StreamOnce.view g.Input.StreamOnce.marks g.Input.StreamOnce.failures g.F.Fn g.N.Parser.lawful in
+    let answers = AskedFor (g.F.MutFunction.returns (item_asker c.args.self.now)) in
+    let some = any_of g.Input.StreamOnce g.F.MutFunction g.N.Parser.lawful in
     let at = GivesItems iterator.can_next iterator.remaining iterator.next_gives in
     let lists = ListsItems iterator.can_next iterator.remaining iterator.next_gives g.J.Clone.is_clone g.J.IntoIterator.into_iter_gives (items_part c.args.self.now) in
     let heapless = g.C.Append.heapless in
@@ -86,8 +85,8 @@ returns-in-Err-clause-answers g c =
 pub items-init : goal.items-init
 items-init g c =
     let iterator = g.J.IntoIter.Iterator in
-    let answers = AskedFor (λ a i n q. given.F-post g (item_asker c.args.self.now) a i n q) in
-    let some = by_function g.Input.StreamOnce.view g.Input.StreamOnce.marks g.Input.StreamOnce.failures g.F.Fn g.N.Parser.lawful in
+    let answers = AskedFor (g.F.MutFunction.returns (item_asker c.args.self.now)) in
+    let some = any_of g.Input.StreamOnce g.F.MutFunction g.N.Parser.lawful in
     let at = GivesItems iterator.can_next iterator.remaining iterator.next_gives in
     let lists = ListsItems iterator.can_next iterator.remaining iterator.next_gives g.J.Clone.is_clone g.J.IntoIterator.into_iter_gives (items_part c.args.self.now) in
     let heapless = g.C.Append.heapless in
@@ -112,7 +111,7 @@ next-requires g c = let r = c.items.invariant.loops.reaches in (gives_callable _
 
 pub parse_item-requires-clause-ready : goal.parse_item-requires-clause-ready
 parse_item-requires-clause-ready g c =
-    let l = c.requires.lawful.2 _ _ (record { shown = _; shows = refl; input = _; left = _; met = rw c.items.invariant.self at c.asked.ensures }) in
+    let l = c.requires.lawful.2 _ _ (record { input = _; left = _; met = rw c.items.invariant.self at c.call_mut.ensures }) in
     record { lawful = l; valid = g.met.N.Parser.default_valid _ c.default.ensures }
 
 pub parse_item-requires-clause-fresh : goal.parse_item-requires-clause-fresh
@@ -127,8 +126,8 @@ returns-in_default-clause-passes g c = c.items.invariant.passes
 pub returns-in_default-clause-answers : goal.returns-in_default-clause-answers
 returns-in_default-clause-answers g c =
     let iterator = g.J.IntoIter.Iterator in
-    let answers = AskedFor (λ a i n q. given.F-post g (item_asker c.args.self.now) a i n q) in
-    let some = by_function g.Input.StreamOnce.view g.Input.StreamOnce.marks g.Input.StreamOnce.failures g.F.Fn g.N.Parser.lawful in
+    let answers = AskedFor (g.F.MutFunction.returns (item_asker c.args.self.now)) in
+    let some = any_of g.Input.StreamOnce g.F.MutFunction g.N.Parser.lawful in
     let at = GivesItems iterator.can_next iterator.remaining iterator.next_gives in
     let lists = ListsItems iterator.can_next iterator.remaining iterator.next_gives g.J.Clone.is_clone g.J.IntoIterator.into_iter_gives (items_part c.args.self.now) in
     let heapless = g.C.Append.heapless in
@@ -147,8 +146,8 @@ returns-in_default-clause-refuses g c = reasons_accepted _ _ _ _ _ _ c.accepted_
 pub returns-in-Stops-parse_item-clause-valid : goal.returns-in-Stops-parse_item-clause-valid
 returns-in-Stops-parse_item-clause-valid g c =
     let iterator = g.J.IntoIter.Iterator in
-    let answers = AskedFor (λ a i n q. given.F-post g (item_asker c.args.self.now) a i n q) in
-    let some = by_function g.Input.StreamOnce.view g.Input.StreamOnce.marks g.Input.StreamOnce.failures g.F.Fn g.N.Parser.lawful in
+    let answers = AskedFor (g.F.MutFunction.returns (item_asker c.args.self.now)) in
+    let some = any_of g.Input.StreamOnce g.F.MutFunction g.N.Parser.lawful in
     let at = GivesItems iterator.can_next iterator.remaining iterator.next_gives in
     let lists = ListsItems iterator.can_next iterator.remaining iterator.next_gives g.J.Clone.is_clone g.J.IntoIterator.into_iter_gives (items_part c.args.self.now) in
     let heapless = g.C.Append.heapless in
@@ -158,7 +157,7 @@ returns-in-Stops-parse_item-clause-valid g c =
     let inv = c.items.invariant in
     let r = inv.loops.reaches in
     let left = gives_some _ _ _ _ _ _ _ r.given c.in-Some.ensures.steps in
-    let met : answers c.in-Some.item c.asked.result = record { shown = _; shows = refl; input = _; left = _; met = rw inv.self at c.asked.ensures } in
+    let met : answers c.in-Some.item c.call_mut.result = record { input = _; left = _; met = rw inv.self at c.call_mut.ensures } in
     let lawful = c.requires.lawful.2 _ _ met in
     let kept = asked_item_kept g.N.Parser.meaning _ lawful (record { asked = item_asker c.args.self.now; is_fit = (c.requires.lawful.0, c.requires.lawful.1); all = c.requires.lawful.2; item = c.in-Some.item; answered = met }) in
     item_leaves g.N.Parser g.Input.StreamOnce observers fresh some g.C.Append.held g.C.Append.more heapless at kept (left.0, left.2) c.parse_item.ensures
@@ -166,14 +165,14 @@ returns-in-Stops-parse_item-clause-valid g c =
 pub returns-in-Stops-parse_item-clause-passes : goal.returns-in-Stops-parse_item-clause-passes
 returns-in-Stops-parse_item-clause-passes g c =
     let inv = c.items.invariant in
-    let stays = c.requires.lawful.1.kept _ _ _ _ (rw inv.self at c.asked.ensures) in
+    let stays = c.requires.lawful.1.kept _ _ _ _ (rw inv.self at c.call_mut.ensures) in
     passes_more inv.passes (passes_more stays.1 c.parse_item.ensures.passes)
 
 pub returns-in-Stops-parse_item-clause-answers : goal.returns-in-Stops-parse_item-clause-answers
 returns-in-Stops-parse_item-clause-answers g c =
     let iterator = g.J.IntoIter.Iterator in
-    let answers = AskedFor (λ a i n q. given.F-post g (item_asker c.args.self.now) a i n q) in
-    let some = by_function g.Input.StreamOnce.view g.Input.StreamOnce.marks g.Input.StreamOnce.failures g.F.Fn g.N.Parser.lawful in
+    let answers = AskedFor (g.F.MutFunction.returns (item_asker c.args.self.now)) in
+    let some = any_of g.Input.StreamOnce g.F.MutFunction g.N.Parser.lawful in
     let at = GivesItems iterator.can_next iterator.remaining iterator.next_gives in
     let lists = ListsItems iterator.can_next iterator.remaining iterator.next_gives g.J.Clone.is_clone g.J.IntoIterator.into_iter_gives (items_part c.args.self.now) in
     let heapless = g.C.Append.heapless in
@@ -184,9 +183,9 @@ returns-in-Stops-parse_item-clause-answers g c =
     let inv = c.items.invariant in
     let r = inv.loops.reaches in
     let left = gives_some _ _ _ _ _ _ _ r.given c.in-Some.ensures.steps in
-    let asked = rw inv.self at c.asked.ensures in
+    let asked = rw inv.self at c.call_mut.ensures in
     let stays = c.requires.lawful.1.kept _ _ _ _ asked in
-    let met : answers c.in-Some.item c.asked.result = record { shown = _; shows = refl; input = _; left = _; met = asked } in
+    let met : answers c.in-Some.item c.call_mut.result = record { input = _; left = _; met = asked } in
     let lawful = c.requires.lawful.2 _ _ met in
     let kept = asked_item_kept g.N.Parser.meaning _ lawful (record { asked = item_asker c.args.self.now; is_fit = (c.requires.lawful.0, c.requires.lawful.1); all = c.requires.lawful.2; item = c.in-Some.item; answered = met }) in
     let runs = runs_next_item g.N.Parser g.Input.StreamOnce observers fresh answers some g.C.Append.held g.C.Append.none g.C.Append.more at lists heapless spared _ _ _ _ _ _ _ _ r _ left.0 left.1 _ met kept _ c.default.ensures (g.met.N.Parser.laws _ lawful) _ left.2 stays.0 stays.2 in
@@ -197,8 +196,8 @@ returns-in-Stops-parse_item-clause-answers g c =
 pub returns-in-Stops-parse_item-clause-refuses : goal.returns-in-Stops-parse_item-clause-refuses
 returns-in-Stops-parse_item-clause-refuses g c =
     let iterator = g.J.IntoIter.Iterator in
-    let answers = AskedFor (λ a i n q. given.F-post g (item_asker c.args.self.now) a i n q) in
-    let some = by_function g.Input.StreamOnce.view g.Input.StreamOnce.marks g.Input.StreamOnce.failures g.F.Fn g.N.Parser.lawful in
+    let answers = AskedFor (g.F.MutFunction.returns (item_asker c.args.self.now)) in
+    let some = any_of g.Input.StreamOnce g.F.MutFunction g.N.Parser.lawful in
     let at = GivesItems iterator.can_next iterator.remaining iterator.next_gives in
     let lists = ListsItems iterator.can_next iterator.remaining iterator.next_gives g.J.Clone.is_clone g.J.IntoIterator.into_iter_gives (items_part c.args.self.now) in
     let heapless = g.C.Append.heapless in
@@ -208,9 +207,9 @@ returns-in-Stops-parse_item-clause-refuses g c =
     let inv = c.items.invariant in
     let r = inv.loops.reaches in
     let left = gives_some _ _ _ _ _ _ _ r.given c.in-Some.ensures.steps in
-    let asked = rw inv.self at c.asked.ensures in
+    let asked = rw inv.self at c.call_mut.ensures in
     let stays = c.requires.lawful.1.kept _ _ _ _ asked in
-    let met : answers c.in-Some.item c.asked.result = record { shown = _; shows = refl; input = _; left = _; met = asked } in
+    let met : answers c.in-Some.item c.call_mut.result = record { input = _; left = _; met = asked } in
     let lawful = c.requires.lawful.2 _ _ met in
     let kept = asked_item_kept g.N.Parser.meaning _ lawful (record { asked = item_asker c.args.self.now; is_fit = (c.requires.lawful.0, c.requires.lawful.1); all = c.requires.lawful.2; item = c.in-Some.item; answered = met }) in
     let runs = runs_next_item g.N.Parser g.Input.StreamOnce observers fresh answers some g.C.Append.held g.C.Append.none g.C.Append.more at lists heapless spared _ _ _ _ _ _ _ _ r _ left.0 left.1 _ met kept _ c.default.ensures (g.met.N.Parser.laws _ lawful) _ left.2 stays.0 stays.2 in
@@ -222,8 +221,8 @@ returns-in-Stops-parse_item-clause-refuses g c =
 pub items-smaller : goal.items-smaller
 items-smaller g c =
     let iterator = g.J.IntoIter.Iterator in
-    let answers = AskedFor (λ a i n q. given.F-post g (item_asker c.args.self.now) a i n q) in
-    let some = by_function g.Input.StreamOnce.view g.Input.StreamOnce.marks g.Input.StreamOnce.failures g.F.Fn g.N.Parser.lawful in
+    let answers = AskedFor (g.F.MutFunction.returns (item_asker c.args.self.now)) in
+    let some = any_of g.Input.StreamOnce g.F.MutFunction g.N.Parser.lawful in
     let at = GivesItems iterator.can_next iterator.remaining iterator.next_gives in
     let lists = ListsItems iterator.can_next iterator.remaining iterator.next_gives g.J.Clone.is_clone g.J.IntoIterator.into_iter_gives (items_part c.args.self.now) in
     let heapless = g.C.Append.heapless in
@@ -237,8 +236,8 @@ items-smaller g c =
 pub items-preserved : goal.items-preserved
 items-preserved g c =
     let iterator = g.J.IntoIter.Iterator in
-    let answers = AskedFor (λ a i n q. given.F-post g (item_asker c.args.self.now) a i n q) in
-    let some = by_function g.Input.StreamOnce.view g.Input.StreamOnce.marks g.Input.StreamOnce.failures g.F.Fn g.N.Parser.lawful in
+    let answers = AskedFor (g.F.MutFunction.returns (item_asker c.args.self.now)) in
+    let some = any_of g.Input.StreamOnce g.F.MutFunction g.N.Parser.lawful in
     let at = GivesItems iterator.can_next iterator.remaining iterator.next_gives in
     let lists = ListsItems iterator.can_next iterator.remaining iterator.next_gives g.J.Clone.is_clone g.J.IntoIterator.into_iter_gives (items_part c.args.self.now) in
     let heapless = g.C.Append.heapless in
@@ -248,9 +247,9 @@ items-preserved g c =
     let inv = c.items.invariant in
     let r = inv.loops.reaches in
     let left = gives_some _ _ _ _ _ _ _ r.given c.in-Some.ensures.steps in
-    let asked = rw inv.self at c.asked.ensures in
+    let asked = rw inv.self at c.call_mut.ensures in
     let stays = c.requires.lawful.1.kept _ _ _ _ asked in
-    let met : answers c.in-Some.item c.asked.result = record { shown = _; shows = refl; input = _; left = _; met = asked } in
+    let met : answers c.in-Some.item c.call_mut.result = record { input = _; left = _; met = asked } in
     let lawful = c.requires.lawful.2 _ _ met in
     let kept = asked_item_kept g.N.Parser.meaning _ lawful (record { asked = item_asker c.args.self.now; is_fit = (c.requires.lawful.0, c.requires.lawful.1); all = c.requires.lawful.2; item = c.in-Some.item; answered = met }) in
     let runs = runs_next_item g.N.Parser g.Input.StreamOnce observers fresh answers some g.C.Append.held g.C.Append.none g.C.Append.more at lists heapless spared _ _ _ _ _ _ _ _ r _ left.0 left.1 _ met kept _ c.default.ensures (g.met.N.Parser.laws _ lawful) _ left.2 stays.0 stays.2 in

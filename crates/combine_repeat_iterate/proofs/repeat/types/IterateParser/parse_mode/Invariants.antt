@@ -2,7 +2,7 @@ use Rattle.std.proofs.Common.{◌≡◌}
 use Rattle.std.specs.Iterator.{size}
 use Rattle.combine_base.specs.Stream.Calls.{Passes}
 use Rattle.combine_repeat_iterate.specs.ItemParsers.{begins_items}
-use Rattle.combine_repeat_iterate.specs.ListedItems.{AskedFor, GivesItems, ListsItems, item_asker, by_function, items_part}
+use Rattle.combine_repeat_iterate.specs.ListedItems.{AskedFor, GivesItems, ListsItems, any_of, item_asker, items_part}
 use Rattle.combine_repeat_iterate.proofs.EachItem.{LoopsItems}
 use Rattle.combine_repeat_iterate.proofs.repeat.types.IterateParser.parse_mode.Given as goal
 
@@ -14,7 +14,7 @@ invariant-items g l =
       cleared : begins_items l.state;
       passes : Passes (g.Input.StreamOnce.marks l.fn.input) (g.Input.StreamOnce.marks l.input) (g.Input.StreamOnce.failures l.fn.input) (g.Input.StreamOnce.failures l.input);
       loops : LoopsItems g.N.Parser g.Input.StreamOnce g.Input.Error.ParseError.observers g.N.PartialState.Default.is_default
-          (AskedFor (λ a i n q. goal.F-post g (item_asker l.fn.self) a i n q)) (by_function g.Input.StreamOnce.view g.Input.StreamOnce.marks g.Input.StreamOnce.failures g.F.Fn g.N.Parser.lawful) g.C.Append.held g.C.Append.none g.C.Append.more
+          (AskedFor (g.F.MutFunction.returns (item_asker l.fn.self))) (any_of g.Input.StreamOnce g.F.MutFunction g.N.Parser.lawful) g.C.Append.held g.C.Append.none g.C.Append.more
           (GivesItems iterator.can_next iterator.remaining iterator.next_gives)
           (ListsItems iterator.can_next iterator.remaining iterator.next_gives g.J.Clone.is_clone g.J.IntoIterator.into_iter_gives (items_part l.fn.self))
           g.C.Append.heapless (g.C.Append.heapless × g.J.Clone.is_infallible (items_part l.fn.self))
