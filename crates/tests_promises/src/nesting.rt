@@ -4,9 +4,10 @@ ghost use Rattle.std.specs.Prelude.{◌≡◌};
 use crate::promises::{keeps, keeps_alone};
 use combine::error::ParseError;
 use combine::expression::{Fixity, Item, Operator, OperatorError, expression};
-use combine::nested::{Frame, Next, always, nested};
+use combine::nested::{Frame, Next, always, always_with, nested};
 use combine::parser::choice::optional;
 use combine::parser::combinator::map;
+use combine::parser::error::expected;
 use combine::parser::token::{any, satisfy_map};
 use combine::stream::Stream;
 use std::alloc::{AllocError, Global};
@@ -87,7 +88,7 @@ where
         0,
         [Fixity::Left],
         always(lexeme),
-        always(lexeme),
+        always_with(move || expected(lexeme, "operator")),
         always(last),
     ));
 }
