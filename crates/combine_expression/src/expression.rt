@@ -126,7 +126,7 @@ pub enum Item<O, V> {
 
 /// Parses an expression of operators with levels, and with brackets inside one another, at most `depth` of them.
 ///
-/// `awaited: Fn(&Part<O, O::Value, N>) -> P, P: Parser<Input, Output = Item<O, O::Value>>`, or `always`; so are `inside` and `outside`.
+/// `awaited: Fn(&Part<O, O::Value, N>) -> P, P: Parser<Input, Output = Item<O, O::Value>>`, or a `RefFunction`, as `always` returns; so are `inside` and `outside`.
 ///
 /// `levels` says how the operators of each level stand and group, the level first that binds least. An operator of a level that it doesn't have fits nowhere. The value is that of the expression in which what is in brackets is an operand; it is committed exactly if a step was.
 ///

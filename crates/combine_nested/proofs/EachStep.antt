@@ -320,8 +320,8 @@ module _ {F I V N Input U Checkpoint T R P E : Type 0} (p : parser.Ghosts N Inpu
         by_answer (PeekErr t) a d k = absurd (let x : dids.Goes next c ≡ dids.Stops (refused_as l.committed t) = d in cc)
 
 -- a parser that was answered for a frame may be kept
-module _ {F I S N Input U Checkpoint T R P E : Type 0} (p : parser.Ghosts N Input U I Checkpoint T R P E) (callable : S → Type 0) (answers : S → F → N → Type 0) (asker : S) where
-  pub asked_step_kept : callable asker → ((f : F) (n : N) → answers asker f n → p.lawful n) → {f : F} {n : N} → answers asker f n → KeptOf p.lawful p.meaning (asked_by_some callable answers p.lawful) n
+module _ {F I S N Input U Checkpoint T R P E : Type 0} (p : parser.Ghosts N Input U I Checkpoint T R P E) (callable : S → F → Type 0) (answers : S → F → N → Type 0) (asker : S) where
+  pub asked_step_kept : ((f : F) → callable asker f) → ((f : F) (n : N) → answers asker f n → p.lawful n) → {f : F} {n : N} → answers asker f n → KeptOf p.lawful p.meaning (asked_by_some callable answers p.lawful) n
   asked_step_kept k every {f} {n} m = record {
     is_lawful = every f n m;
     parser = n;

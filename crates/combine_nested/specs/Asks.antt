@@ -21,9 +21,9 @@ abbrev pub asked_either : {F N M : Type 0} → (F → Bool → Type 0) → (F �
 asked_either tells a b f (Left n) = tells f true × a f n
 asked_either tells a b f (Right m) = tells f false × b f m
 
--- answered for some frame by one that may be asked, and whose parsers are all lawful
-abbrev pub asked_by_some : {S F N : Type 0} → (S → Type 0) → (S → F → N → Type 0) → (N → Type 0) → N → Type 0
-asked_by_some {F = F} callable answers lawful = MadeBySome callable (λ s n. (f : F) × answers s f n) lawful
+-- answered for some frame by one that may be asked for each, and whose parsers are all lawful
+abbrev pub asked_by_some : {S F N : Type 0} → (S → F → Type 0) → (S → F → N → Type 0) → (N → Type 0) → N → Type 0
+asked_by_some {F = F} callable answers lawful = MadeBySome (λ s. (f : F) → callable s f) (λ s n. (f : F) × answers s f n) lawful
 
-pub asked_so : {S F N : Type 0} {callable : S → Type 0} {answers : S → F → N → Type 0} {lawful : N → Type 0} (asker : S) → callable asker → ((f : F) (n : N) → answers asker f n → lawful n) → (f : F) (n : N) → answers asker f n → asked_by_some callable answers lawful n
+pub asked_so : {S F N : Type 0} {callable : S → F → Type 0} {answers : S → F → N → Type 0} {lawful : N → Type 0} (asker : S) → ((f : F) → callable asker f) → ((f : F) (n : N) → answers asker f n → lawful n) → (f : F) (n : N) → answers asker f n → asked_by_some callable answers lawful n
 asked_so asker k every f n m = record { maker = asker; is_callable = k; all = λ n m. every m.0 n m.1; made = (f, m) }

@@ -68,7 +68,7 @@ pub trait Frame: Drop {
 /// Parses steps, one after another, over frames that are open inside one another, at most `depth` of them inside the outermost.
 ///
 /// `root: Fn() -> F, F: Frame`, or a `Maker`.
-/// `step: Fn(&F) -> N, N: Parser<Input, Output = F::Item>`, or `always`, `always_with` or `if_else`.
+/// `step: Fn(&F) -> N, N: Parser<Input, Output = F::Item>`, or a `RefFunction`, as `always`, `always_with` and `if_else` return.
 ///
 /// A closure for `step` has to write its parameter's type, as `|_: &Brackets| ..`. `root` makes the outermost frame. `step` returns the parser of each step, by the innermost frame, which takes its item: a function of the frame, or [`always`] and [`always_with`] for the same parser at each step, or [`if_else`] for one of two. The value is that with which the outermost frame is closed; it is committed exactly if a step was.
 ///
@@ -151,8 +151,8 @@ pub fn always_with<M>(maker: M) -> AlwaysWith<M>
 
 /// Returns what `first` does where `test` holds of the innermost frame, and else what `second` does.
 ///
-/// `test: Fn(&F) -> bool`.
-/// `first: Fn(&F) -> N, N: Parser<Input>`, or `always`, or `if_else`; so is `second`.
+/// `test: Fn(&F) -> bool`, or a `RefFunction`.
+/// `first: Fn(&F) -> N, N: Parser<Input>`, or a `RefFunction`, as `always`, `always_with` and `if_else` return; so is `second`.
 #[inline]
 pub fn if_else<C, A, B>(test: C, first: A, second: B) -> IfElse<C, A, B>
     ensures { result ≡ if_else_of test first second }

@@ -4,8 +4,7 @@ use crate::grammar::Open;
 use crate::node::Document;
 use crate::parts::{Blanks, Sign, blanks, sign};
 use crate::places::Place;
-use combine_base::function::{Function, Maker};
-use combine_nested::nested::asked::Ask;
+use combine_base::function::{Function, Maker, RefFunction};
 use combine_nested::nested::nested;
 use combine_nested::nested::types::Nested;
 use combine_sequence::sequence::between;
@@ -47,11 +46,11 @@ pub struct AskStep<I, V> {
     reads: PhantomData<I>,
 }
 
-impl<I, V: Copy> Ask<Open> for AskStep<I, V> {
-    type Parser = Step<I, V>;
+impl<I, V: Copy> RefFunction<Open> for AskStep<I, V> {
+    type Output = Step<I, V>;
 
     #[inline(always)]
-    fn ask(&self, open: &Open) -> Step<I, V> {
+    fn call_ref(&self, open: &Open) -> Step<I, V> {
         step(self.value, open.place)
     }
 }

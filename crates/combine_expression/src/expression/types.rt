@@ -4,8 +4,8 @@ ghost use Rattle.combine_expression.specs.ExpressionParts.{BeginsPart, MakesOute
 
 use super::operands::{Fault, Operands};
 use super::{Fixity, Item, Operator};
-use combine_base::function::Maker;
-use combine_nested::nested::asked::{IfElse, Test};
+use combine_base::function::{Maker, RefFunction};
+use combine_nested::nested::asked::IfElse;
 use combine_nested::nested::types::Nested;
 use combine_nested::nested::{Frame, Next};
 use std::alloc::{AllocError, Global};
@@ -157,15 +157,15 @@ impl<O: Drop, V: Drop, const N: usize> Maker for Outermost<O, V, N> {
 #[derive(Clone, Copy, Drop)]
 pub struct Awaits;
 
-impl<O, V, const N: usize> Test<Part<O, V, N>> for Awaits {
+impl<O, V, const N: usize> RefFunction<Part<O, V, N>> for Awaits {
     ghost use Rattle.combine_expression.specs.ExpressionParts.{awaits};
 
-    ghost callable = { λ _. Unit {0} };
+    type Output = bool;
 
-    ghost tells = { λ _ p b. b ≡ awaits p };
+    ghost returns = { λ _ p b. b ≡ awaits p };
 
     #[inline]
-    fn test(&self, part: &Part<O, V, N>) -> bool {
+    fn call_ref(&self, part: &Part<O, V, N>) -> bool {
         part.operands.held.is_none()
     }
 }
@@ -174,13 +174,13 @@ impl<O, V, const N: usize> Test<Part<O, V, N>> for Awaits {
 #[derive(Clone, Copy, Drop)]
 pub struct InBrackets;
 
-impl<O, V, const N: usize> Test<Part<O, V, N>> for InBrackets {
-    ghost callable = { λ _. Unit {0} };
+impl<O, V, const N: usize> RefFunction<Part<O, V, N>> for InBrackets {
+    type Output = bool;
 
-    ghost tells = { λ _ p b. b ≡ p.in_brackets };
+    ghost returns = { λ _ p b. b ≡ p.in_brackets };
 
     #[inline]
-    fn test(&self, part: &Part<O, V, N>) -> bool {
+    fn call_ref(&self, part: &Part<O, V, N>) -> bool {
         part.in_brackets
     }
 }

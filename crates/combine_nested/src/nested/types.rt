@@ -6,11 +6,10 @@ ghost use Rattle.combine_nested.specs.NestedSteps.{step_asker, depth_part, root_
 ghost use Rattle.combine_nested.specs.AlikeFrames.{NestsOne, nesting_means_one};
 
 use super::Frame;
-use super::asked::Ask;
 use super::steps::{Did, Frames, run_step};
 pub use super::steps::{NestedState, RunningStep};
 use combine_base::error::{ErrorOffset, ParseResult, Tracked};
-use combine_base::function::Maker;
+use combine_base::function::{Maker, RefFunction};
 use combine_base::parser::{FirstMode, Outputs, ParseMode, Parser};
 use combine_base::sequence::take_state;
 use combine_base::stream::Stream;
@@ -38,23 +37,23 @@ impl<
     F: Frame,
     N: Parser<Input, Output = F::Item> + Drop,
     R: Maker<Output = F>,
-    S: Ask<F, Parser = N>,
+    S: RefFunction<F, Output = N>,
 > Parser<Input> for Nested<R, S> {
     type PartialState = NestedState<F, N, N::PartialState>;
 
-    ghost lawful = { λ p. R.callable (root_part p) × S.callable (step_asker p) × ((f : F) (n : N) → S.answers (step_asker p) f n → N.lawful n) };
+    ghost lawful = { λ p. R.callable (root_part p) × ((f : F) → S.callable (step_asker p) f) × ((f : F) (n : N) → S.returns (step_asker p) f n → N.lawful n) };
 
-    ghost determined = { λ p. ((n : N) → asked_by_some S.callable S.answers N.lawful n → N.determined n) × NestsOne (R.returns (root_part p)) (S.answers (step_asker p)) F.takes F.joins (asked_by_some S.callable S.answers N.lawful) N.meaning N.valid F.alike F.alike_items F.alike_values };
+    ghost determined = { λ p. ((n : N) → asked_by_some S.callable S.returns N.lawful n → N.determined n) × NestsOne (R.returns (root_part p)) (S.returns (step_asker p)) F.takes F.joins (asked_by_some S.callable S.returns N.lawful) N.meaning N.valid F.alike F.alike_items F.alike_values };
 
-    ghost valid = { valid_steps (KeptOf N.lawful N.meaning (asked_by_some S.callable S.answers N.lawful)) N.valid };
+    ghost valid = { valid_steps (KeptOf N.lawful N.meaning (asked_by_some S.callable S.returns N.lawful)) N.valid };
 
-    ghost meaning = { λ p. nesting Input.step Input.Error.observers (depth_part p) (R.returns (root_part p)) (S.answers (step_asker p)) F.takes F.joins (asked_by_some S.callable S.answers N.lawful) N.meaning };
+    ghost meaning = { λ p. nesting Input.step Input.Error.observers (depth_part p) (R.returns (root_part p)) (S.returns (step_asker p)) F.takes F.joins (asked_by_some S.callable S.returns N.lawful) N.meaning };
 
     ghost parts = { λ _. 1 };
 
-    ghost default_valid = { steps_start_valid (KeptOf N.lawful N.meaning (asked_by_some S.callable S.answers N.lawful)) N.valid };
+    ghost default_valid = { steps_start_valid (KeptOf N.lawful N.meaning (asked_by_some S.callable S.returns N.lawful)) N.valid };
 
-    ghost laws = { λ p l. nesting_is_meaning Input.step (depth_part p) (R.returns (root_part p)) (S.answers (step_asker p)) F.takes F.joins (asked_by_some S.callable S.answers N.lawful) N.meaning N.lawful N.laws l.2 Input.Error.observers };
+    ghost laws = { λ p l. nesting_is_meaning Input.step (depth_part p) (R.returns (root_part p)) (S.returns (step_asker p)) F.takes F.joins (asked_by_some S.callable S.returns N.lawful) N.meaning N.lawful N.laws l.2 Input.Error.observers };
 
     ghost single = { λ p l d. nesting_means_one Input.step (depth_part p) d.1 N.lawful (λ n i. N.single n (i.all n i.made) (d.0 n i)) (asked_so (step_asker p) l.1 l.2) Input.Error.observers };
 
@@ -78,7 +77,7 @@ impl<
                 Did::Stops(answer) => return answer,
             };
             let step = RunningStep {
-                parser: self.asked.ask(&frames.top),
+                parser: self.asked.call_ref(&frames.top),
                 state: N::PartialState::default(),
                 frames,
                 committed,

@@ -11,7 +11,7 @@ use Rattle.combine_nested.proofs.nested.types.NestedParser.parse_mode.Goals.{in-
 
 pub run_step-next-requires-clause-ready : goal.run_step-next-requires-clause-ready
 run_step-next-requires-clause-ready g c =
-    let some = asked_by_some g.S.Ask.callable g.S.Ask.answers g.N.Parser.lawful in
+    let some = asked_by_some g.S.RefFunction.callable g.S.RefFunction.returns g.N.Parser.lawful in
     let v = valid_from (steps_start_valid (KeptOf g.N.Parser.lawful g.N.Parser.meaning some) g.N.Parser.valid) c.in-Running.ensures.from c.requires.valid in
     record { lawful = v.0.is_lawful; valid = v.1 }
 
@@ -23,8 +23,8 @@ steps-init g c =
     let fresh = g.N.PartialState.Default.is_default in
     let depth = depth_part c.args.self.now in
     let roots = g.R.Maker.returns (root_part c.args.self.now) in
-    let answers = g.S.Ask.answers (step_asker c.args.self.now) in
-    let some = asked_by_some g.S.Ask.callable g.S.Ask.answers p.lawful in
+    let answers = g.S.RefFunction.returns (step_asker c.args.self.now) in
+    let some = asked_by_some g.S.RefFunction.callable g.S.RefFunction.returns p.lawful in
     let laws = nesting_is_meaning i.step depth roots answers g.F.Frame.takes g.F.Frame.joins some p.meaning p.lawful g.met.N.Parser.laws c.requires.lawful.2 observers in
     elim c.match-take_state.branch [
       | in-Running w ↦
@@ -48,13 +48,13 @@ steps-preserved g c =
     let fresh = g.N.PartialState.Default.is_default in
     let depth = depth_part c.args.self.now in
     let roots = g.R.Maker.returns (root_part c.args.self.now) in
-    let answers = g.S.Ask.answers (step_asker c.args.self.now) in
-    let some = asked_by_some g.S.Ask.callable g.S.Ask.answers p.lawful in
+    let answers = g.S.RefFunction.returns (step_asker c.args.self.now) in
+    let some = asked_by_some g.S.RefFunction.callable g.S.RefFunction.returns p.lawful in
     let laws = nesting_is_meaning i.step depth roots answers g.F.Frame.takes g.F.Frame.joins some p.meaning p.lawful g.met.N.Parser.laws c.requires.lawful.2 observers in
     let inv = c.steps.invariant in
     let loops = (rw c.in-Goes.is at inv.leads).1 in
-    let met = rw inv.self at c.ask.ensures in
-    let kept = asked_step_kept p g.S.Ask.callable g.S.Ask.answers (step_asker c.args.self.now) c.requires.lawful.1 c.requires.lawful.2 met in
+    let met = rw inv.self at c.call_ref.ensures in
+    let kept = asked_step_kept p g.S.RefFunction.callable g.S.RefFunction.returns (step_asker c.args.self.now) c.requires.lawful.1 c.requires.lawful.2 met in
     let part = g.met.N.Parser.laws _ kept.is_lawful in
     let runs = runs_next_step p i observers fresh depth roots answers g.F.Frame.takes g.F.Frame.joins some _ _ _ _ _ _ _ loops.reaches _ met kept _ c.default.ensures part in
     let leads = step_leads p i observers fresh depth roots answers g.F.Frame.takes g.F.Frame.joins some inv.passes.reads inv.passes.resets laws part (g.met.N.Parser.default_valid _ c.default.ensures) loops.from runs (rw inv.self at c.run_step-next-in-steps.ensures) in
@@ -62,5 +62,5 @@ steps-preserved g c =
 
 pub run_step-next-requires-in-steps-clause-ready : goal.run_step-next-requires-in-steps-clause-ready
 run_step-next-requires-in-steps-clause-ready g c =
-    let l = c.requires.lawful.2 _ _ (rw c.steps.invariant.self at c.ask.ensures) in
+    let l = c.requires.lawful.2 _ _ (rw c.steps.invariant.self at c.call_ref.ensures) in
     record { lawful = l; valid = g.met.N.Parser.default_valid _ c.default.ensures }

@@ -7,12 +7,12 @@ use Rattle.combine_nested.proofs.nested.types.NestedParser.parse_mode.Given as g
 
 abbrev pub invariant-steps : goal.invariant-steps
 invariant-steps g l =
-    let some = asked_by_some g.S.Ask.callable g.S.Ask.answers g.N.Parser.lawful in
+    let some = asked_by_some g.S.RefFunction.callable g.S.RefFunction.returns g.N.Parser.lawful in
     record {
       self : l.self ≡ l.fn.self;
       passes : Passes (g.Input.StreamOnce.marks l.fn.input) (g.Input.StreamOnce.marks l.input) (g.Input.StreamOnce.failures l.fn.input) (g.Input.StreamOnce.failures l.input);
       leads : leads_to g.N.Parser g.Input.StreamOnce g.Input.Error.ParseError.observers g.N.PartialState.Default.is_default (depth_part l.fn.self)
-          (g.R.Maker.returns (root_part l.fn.self)) (g.S.Ask.answers (step_asker l.fn.self)) g.F.Frame.takes g.F.Frame.joins some
+          (g.R.Maker.returns (root_part l.fn.self)) (g.S.RefFunction.returns (step_asker l.fn.self)) g.F.Frame.takes g.F.Frame.joins some
           (g.M.ParseMode.first l.fn.mode) l.fn.state l.state (g.Input.StreamOnce.view l.fn.input) (g.Input.StreamOnce.view l.input) (g.Input.StreamOnce.failures l.fn.input) (g.Input.StreamOnce.failures l.input) l.next;
     }
 
