@@ -1,6 +1,5 @@
 -- a function that runs a parser from its start has one outcome where that parser has one, and asks for no memory where it asks for none
 use Rattle.std.proofs.Common.{ℕ, ◌≡◌, ◌⊎◌, inl, inr, Bool, true, false, length, arith, ap, sym, subst, ◌∙◌, length-drop}
-use denote.Ref.{MutBor}
 use Rattle.combine_base.specs.Error.Errors.{Observers}
 use Rattle.combine_base.specs.Parser.Answer.{CallRecord, World, answers, asks_or_refuses, fails, peeks, world}
 use Rattle.combine_base.specs.Parser.Drivers.{Starts, afresh}
@@ -80,22 +79,22 @@ module _ {I P T R V E S : Type 0} (step : P → T → P) (errors : Observers T R
         (subst (λ k. fails here m run k) i s.answers.is).0 f l
 
   module _ {X : Type 0} (into : X → ParseResult V E) where
-    module _ (post : MutBor I → X → MutBor I → Type 0) (k : (shown after : MutBor I) (own : X) → post shown own after → RunsIt shown.now (into own) after.now) where
-      plain_runs : (input left : I) (y : ParseResult V E) → AnswersAt post into input y left → RunsIt input y left
-      plain_runs input left y a = rw (a.is, sym a.given, sym a.leaves) (k a.shown a.after a.own a.met)
+    module _ (returns : I → X → I → Type 0) (k : (input left : I) (own : X) → returns input own left → RunsIt input (into own) left) where
+      plain_runs : (input left : I) (y : ParseResult V E) → AnswersAt returns into input y left → RunsIt input y left
+      plain_runs input left y a = rw a.is (k input left a.own a.met)
 
-      pub plain_is_single : IsReading m.whole → IsSingle m.whole → IsSingle (FunctionReading step errors.kind view (AnswersAt post into))
-      plain_is_single h one = run_is_single h one (AnswersAt post into) plain_runs
+      pub plain_is_single : IsReading m.whole → IsSingle m.whole → IsSingle (FunctionReading step errors.kind view (AnswersAt returns into))
+      plain_is_single h one = run_is_single h one (AnswersAt returns into) plain_runs
 
-      pub plain_needs_no_memory : errors.never_allocates → m.heapless → NeedsNoMemory step errors.kind view (AnswersAt post into)
-      plain_needs_no_memory = run_needs_no_memory (AnswersAt post into) plain_runs
+      pub plain_needs_no_memory : errors.never_allocates → m.heapless → NeedsNoMemory step errors.kind view (AnswersAt returns into)
+      plain_needs_no_memory = run_needs_no_memory (AnswersAt returns into) plain_runs
 
-    module _ {Env : Type 0} (clone : Env → Type 0) (post : Env → MutBor I → X → MutBor I → Type 0) (k : (e : Env) (shown after : MutBor I) (own : X) → clone e → post e shown own after → RunsIt shown.now (into own) after.now) where
-      env_runs : (input left : I) (y : ParseResult V E) → AnswersWith clone post into input y left → RunsIt input y left
-      env_runs input left y a = let b = a.answers in rw (b.is, sym b.given, sym b.leaves) (k a.env b.shown b.after b.own a.cloned b.met)
+    module _ {Env : Type 0} (clone : Env → Type 0) (returns : Env → I → X → I → Type 0) (k : (e : Env) (input left : I) (own : X) → clone e → returns e input own left → RunsIt input (into own) left) where
+      env_runs : (input left : I) (y : ParseResult V E) → AnswersWith clone returns into input y left → RunsIt input y left
+      env_runs input left y a = let b = a.answers in rw b.is (k a.env input left b.own a.cloned b.met)
 
-      pub env_is_single : IsReading m.whole → IsSingle m.whole → IsSingle (FunctionReading step errors.kind view (AnswersWith clone post into))
-      env_is_single h one = run_is_single h one (AnswersWith clone post into) env_runs
+      pub env_is_single : IsReading m.whole → IsSingle m.whole → IsSingle (FunctionReading step errors.kind view (AnswersWith clone returns into))
+      env_is_single h one = run_is_single h one (AnswersWith clone returns into) env_runs
 
-      pub env_needs_no_memory : errors.never_allocates → m.heapless → NeedsNoMemory step errors.kind view (AnswersWith clone post into)
-      env_needs_no_memory = run_needs_no_memory (AnswersWith clone post into) env_runs
+      pub env_needs_no_memory : errors.never_allocates → m.heapless → NeedsNoMemory step errors.kind view (AnswersWith clone returns into)
+      env_needs_no_memory = run_needs_no_memory (AnswersWith clone returns into) env_runs

@@ -1,5 +1,4 @@
 -- values changed by a function, or refused by it, which is known by its relation; kind and count are kept
-use denote.Ref.{MutBor}
 use Rattle.std.specs.Str.{IsUtf8}
 use Rattle.std.specs.declared.cmp.Ordering.{Ordering}
 use Rattle.std.specs.Prelude.{ℕ, codes, ◌≡◌, ◌⊎◌, ◌↔◌, refl, List, Bool, true, Result, Ok, Err}
@@ -222,15 +221,15 @@ pub record MadeOf {T R P E A B X I : Type 0} (s : Observers T R P E) (items : I 
   pub said : AddsItems s (Unit {0}) (λ is. is ≡ items item) own e
 
 -- a function that leaves the stream in place, as it answers for a value
-pub record AnswerLeavesStream {I P T B C V : Type 0} (view : I → View P T) (marks : I → C → V → Type 0) (failures : I → Failures) (post : MutBor I → B → MutBor I → Type 0) : Type 0 where
-  pub kept : (i : MutBor I) (b : B) (l : MutBor I) → post i b l → (view l.now ≡ view i.now) × Passes (marks i.now) (marks l.now) (failures i.now) (failures l.now) × (failures l.now ≡ failures i.now)
+pub record AnswerLeavesStream {I P T B C V : Type 0} (view : I → View P T) (marks : I → C → V → Type 0) (failures : I → Failures) (returns : I → B → I → Type 0) : Type 0 where
+  pub kept : (i : I) (b : B) (l : I) → returns i b l → (view l ≡ view i) × Passes (marks i) (marks l) (failures i) (failures l) × (failures l ≡ failures i)
 
 -- what a function may answer for a value, at a stream that stands there
-pub record GivesAt {I P T A B : Type 0} (view : I → View P T) (post : A → MutBor I → B → MutBor I → Type 0) (place : P) (a : A) (b : B) : Type 0 where
-  pub shown : MutBor I
-  pub left : MutBor I
-  pub there : (view shown.now).position ≡ place
-  pub met : post a shown b left
+pub record GivesAt {I P T A B : Type 0} (view : I → View P T) (returns : A → I → B → I → Type 0) (place : P) (a : A) (b : B) : Type 0 where
+  pub input : I
+  pub left : I
+  pub there : (view input).position ≡ place
+  pub met : returns a input b left
 
 -- bytes that are no text, or a text that is refused
 abbrev pub Misread : {N E : Type 0} → (List ℕ → Result N E → Type 0) → List ℕ → Type 0

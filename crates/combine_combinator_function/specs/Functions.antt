@@ -1,7 +1,6 @@
 -- parsers that are functions: each is known by what its calls answer
 use Rattle.std.specs.Prelude.{ℕ, ◌<◌, ◌≤◌, ◌≡◌, ◌⊎◌, List, ◌++◌, Bool, true, false, length, refl}
 use Rattle.std.proofs.Common.{arith, ap, subst, inl, inr, append_assoc, length-append, ◌∙◌}
-use denote.Ref.{MutBor}
 use Rattle.combine_base.specs.Stream.View.{View, Takes, Moves, extended}
 use Rattle.combine_base.specs.Stream.Calls.{Passes}
 use Rattle.combine_base.specs.Error.Errors.{AddsNothing}
@@ -28,20 +27,16 @@ abbrev pub call_of : {Input C : Type 0} → Called Input C → C
 call_of p = p.call
 
 -- a function may answer this for that stream, and leave it so; into is what its answer is turned into
-pub record AnswersAt {I X A : Type 0} (post : MutBor I → X → MutBor I → Type 0) (into : X → A) (input : I) (answer : A) (left : I) : Type 0 where
-  pub shown : MutBor I
-  pub after : MutBor I
+pub record AnswersAt {I X A : Type 0} (returns : I → X → I → Type 0) (into : X → A) (input : I) (answer : A) (left : I) : Type 0 where
   pub own : X
-  pub met : post shown own after
-  pub given : shown.now ≡ input
-  pub leaves : after.now ≡ left
+  pub met : returns input own left
   pub is : answer ≡ into own
 
 -- the same of a function that is given a clone of what it needs
-pub record AnswersWith {I X A E : Type 0} (clone : E → Type 0) (post : E → MutBor I → X → MutBor I → Type 0) (into : X → A) (input : I) (answer : A) (left : I) : Type 0 where
+pub record AnswersWith {I X A E : Type 0} (clone : E → Type 0) (returns : E → I → X → I → Type 0) (into : X → A) (input : I) (answer : A) (left : I) : Type 0 where
   pub env : E
   pub cloned : clone env
-  pub answers : AnswersAt (post env) into input answer left
+  pub answers : AnswersAt (returns env) into input answer left
 
 module _ {P T V E : Type 0} (step : P → T → P) (kind : E → Kind) (old new : View P T) where
   abbrev pub error_outcome : Bool → Kind → Outcome V → Type 0

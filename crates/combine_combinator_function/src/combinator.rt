@@ -96,7 +96,7 @@ pub fn flat_map<P, F, B>(p: P, f: F) -> FlatMap<P, F, B>
 
 /// Parses as `p`, and changes its value by `f`, which is given the stream too, as `p` left it.
 ///
-/// `f: Fn(P::Output, &mut Input) -> B`.
+/// `f: Fn(P::Output, &mut Input) -> B`, or a `MutFunction`.
 ///
 /// `f` has to leave the stream in place, and to be callable on the values that `p` gives. What is taken, refusals, faults and need of more are those of `p`, and so is the state.
 ///

@@ -9,7 +9,7 @@ use types::{Called, EnvParser, FnParser, WithEnv, WithoutEnv};
 
 /// Parses as the function, which is given the stream.
 ///
-/// `f: Fn(&mut Input) -> StdParseResult<O, Input>`.
+/// `f: Fn(&mut Input) -> StdParseResult<O, Input>`, or a `MutFunction`.
 ///
 /// Nothing is added to errors.
 ///
@@ -41,7 +41,7 @@ pub fn parser<Input, F>(f: F) -> FnParser<Input, F>
 
 /// Parses as `parser` does, by a function that is given a clone of `env` too.
 ///
-/// `f: Fn(E, &mut Input) -> StdParseResult<O, Input>, E: Clone`.
+/// `f: Fn(E, &mut Input) -> StdParseResult<O, Input>, E: Clone`, or a `MutFunction`.
 ///
 /// # Errors
 ///

@@ -7,7 +7,7 @@ ghost use Rattle.combine_combinator_function.specs.Changes.{AnsweredItem, Answer
 use super::changed::ValueChange;
 use super::text::StrLike;
 use combine_base::error::{DetailedError, ErrorOffset, Info, ParseError, StreamError};
-use combine_base::function::Function;
+use combine_base::function::{Function, MutFunction};
 use combine_base::stream::{Kind, Stream, StreamOnce};
 use std::marker::PhantomData;
 use std::str::FromStr;
@@ -140,12 +140,13 @@ fn refused_with<Input: Stream>(
 #[derive(Clone, Copy, Drop)]
 pub struct MapInputFn<F>(pub(super) F);
 
-impl<Input: Stream, A, B: Drop, F: Fn(A, &mut Input) -> B> ValueChange<Input, A> for MapInputFn<F> {
+impl<Input: Stream, A, B: Drop, F: MutFunction<(A,), Input, Output = B>> ValueChange<Input, A>
+    for MapInputFn<F> {
     type Output = B;
 
-    ghost callable = { λ f a. ((i : _) → F.pre f.0 a i) × AnswerLeavesStream Input.view Input.marks Input.failures (λ i b l. F.post f.0 a i b l) };
+    ghost callable = { λ f a. ((i : Input) → F.callable f.0 (record { 0 = a }) i) × AnswerLeavesStream Input.view Input.marks Input.failures (F.returns f.0 (record { 0 = a })) };
 
-    ghost gives = { λ f. GivesAt Input.view (λ a i b l. F.post f.0 a i b l) };
+    ghost gives = { λ f. GivesAt Input.view (λ a. F.returns f.0 (record { 0 = a })) };
 
     ghost denies = { λ f a. ⊥ };
 
@@ -162,7 +163,7 @@ impl<Input: Stream, A, B: Drop, F: Fn(A, &mut Input) -> B> ValueChange<Input, A>
         began: Input::Position,
         input: &mut Input,
     ) -> Result<B, Input::Error> {
-        Ok((self.0)(value, input))
+        Ok(self.0.call_mut((value,), input))
     }
 
     /// Counts as the part does.

@@ -5,6 +5,7 @@ ghost use Rattle.combine_base.specs.Parser.Meaning.{IsSingle};
 ghost use Rattle.combine_combinator_function.specs.Functions.{AnswersAt, AnswersWith, FunctionReading, IsFunction, NeedsNoMemory, as_function, as_function_is_meaning, as_function_means_one, call_of};
 
 use combine_base::error::{ErrorOffset, ParseResult, StdParseResult, Tracked};
+use combine_base::function::MutFunction;
 use combine_base::parser::{Outputs, ParseMode, Parser};
 use combine_base::stream::{Kind, Positioned, ResetStream, Stream, StreamOnce, needs_more};
 use std::marker::PhantomData;
@@ -47,36 +48,41 @@ pub struct WithEnv<E, F> {
     pub(super) function: F,
 }
 
-impl<Input: Stream, O: Drop, F: Fn(&mut Input) -> StdParseResult<O, Input>> Call<Input>
-    for WithoutEnv<F> {
+impl<Input: Stream, O: Drop, F: MutFunction<(), Input, Output = StdParseResult<O, Input>>> Call<
+    Input,
+> for WithoutEnv<F> {
     type Value = O;
 
-    ghost callable = { λ f. F.IsAlwaysCallable f.0 };
+    ghost callable = { λ f. (i : Input) → F.callable f.0 tt i };
 
-    ghost answers = { λ f. AnswersAt (λ i r l. F.post f.0 i r l) from_standard };
+    ghost answers = { λ f. AnswersAt (F.returns f.0 tt) from_standard };
 
     ghost infallible = { λ f. Unit {0} };
 
     #[inline(always)]
     fn call(&self, input: &mut Input) -> Result<ParseResult<O, Input::Error>, NoMemory> {
-        Ok(ParseResult::from((self.0)(input)))
+        Ok(ParseResult::from(self.0.call_mut((), input)))
     }
 }
 
-impl<Input: Stream, O: Drop, E: Clone, F: Fn(E, &mut Input) -> StdParseResult<O, Input>> Call<Input>
-    for WithEnv<E, F> {
+impl<
+    Input: Stream,
+    O: Drop,
+    E: Clone,
+    F: MutFunction<(E,), Input, Output = StdParseResult<O, Input>>,
+> Call<Input> for WithEnv<E, F> {
     type Value = O;
 
-    ghost callable = { λ f. F.IsAlwaysCallable f.function };
+    ghost callable = { λ f. (e : E) (i : Input) → F.callable f.function (record { 0 = e }) i };
 
-    ghost answers = { λ f. AnswersWith (E.is_clone f.env) (λ e i r l. F.post f.function e i r l) from_standard };
+    ghost answers = { λ f. AnswersWith (E.is_clone f.env) (λ e. F.returns f.function (record { 0 = e })) from_standard };
 
     ghost infallible = { λ f. E.is_infallible f.env };
 
     #[inline(always)]
     fn call(&self, input: &mut Input) -> Result<ParseResult<O, Input::Error>, NoMemory> {
         match self.env.clone() {
-            Ok(env) => Ok(ParseResult::from((self.function)(env, input))),
+            Ok(env) => Ok(ParseResult::from(self.function.call_mut((env,), input))),
             Err(_refused) => Err(NoMemory),
         }
     }
