@@ -183,7 +183,7 @@ pub fn bytes<Input>(s: &'static [u8]) -> Bytes<Input>
 
 /// Takes as many bytes as the list has, as `bytes` does, each if `cmp` says that it fits.
 ///
-/// `cmp: Fn(u8, u8) -> bool`.
+/// `cmp: Fn(u8, u8) -> bool`, or a `Compare`.
 ///
 /// `cmp` is given a byte of the list and the token at its place.
 ///

@@ -1,5 +1,5 @@
 //! The bytes of a list, matched one by one. Our own, of which `bytes` and `bytes_cmp` are made.
-ghost use Rattle.std.specs.Prelude.{◌≡◌, ◌<◌, ◌^◌, None, length};
+ghost use Rattle.std.specs.Prelude.{◌≡◌, ◌<◌, ◌^◌, ℕ, None, length};
 ghost use Rattle.std.specs.Slice.Iter.{iter_rest};
 ghost use Rattle.combine_base.specs.Stream.Calls.{Passes};
 ghost use Rattle.combine_token.specs.Token.Lists.ListCalls.{AnswersListCall, ReasonedListCall};
@@ -11,6 +11,7 @@ ghost use Rattle.combine_char.specs.SpelledLists.{SaysRange, listed_compares_onc
 
 use crate::fits::Fits;
 use combine_base::error::{ErrorOffset, Info, ParseError, ParseResult, Tracked};
+use combine_base::function::Compare;
 use combine_base::parser::{Outputs, ParseMode, Parser};
 use combine_base::stream::Stream;
 use combine_token::token::{TokensState, match_list};
@@ -82,13 +83,13 @@ where
 {
     type PartialState = TokensState;
 
-    ghost lawful = { λ p. F.ready (fits_of_bytes p) };
+    ghost lawful = { λ p. (item : ℕ) (token : Input.Token) → F.callable (fits_of_bytes p) item token };
 
     ghost determined = { λ p. F.determined (fits_of_bytes p) };
 
     ghost valid = { λ s. Unit {0} };
 
-    ghost meaning = { λ p. token_list Input.Error.observers (listed_tokens (F.compares (fits_of_bytes p)) (bytes_of_parser p).now) None (λ v. v ≡ bytes_of_parser p) matched_before (Unit {0}) (SaysRange (Input.Range.shows (bytes_of_parser p).now)) };
+    ghost meaning = { λ p. token_list Input.Error.observers (listed_tokens (F.returns (fits_of_bytes p)) (bytes_of_parser p).now) None (λ v. v ≡ bytes_of_parser p) matched_before (Unit {0}) (SaysRange (Input.Range.shows (bytes_of_parser p).now)) };
 
     ghost parts = { λ p. 1 };
 
@@ -131,17 +132,17 @@ fn match_bytes<F, Input: Stream, M: ParseMode>(
     state: &mut TokensState,
 ) -> ParseResult<&'static [u8], Input::Error>
 where
-    F: Fits<u8, Input::Token>,
-    requires { F.ready fits.now }
+    F: Compare<u8, Input::Token>,
+    requires { (item : ℕ) (token : Input.Token) → F.callable fits.now item token }
     ensures passes { Passes (Input.marks input.old) (Input.marks input.new) (Input.failures input.old) (Input.failures input.new) }
-    ensures answers { AnswersListCall Input.StreamOnce Input.Error.observers (listed_tokens (F.compares fits.now) bytes.now) None (λ v. v ≡ bytes.entry) (Unit {0}) (M.first mode) state.old state.new input.old input.new result }
-    ensures refuses { ReasonedListCall Input.StreamOnce Input.Error.observers (listed_tokens (F.compares fits.now) bytes.now) None (M.first mode) state.old input.old input.new result }
+    ensures answers { AnswersListCall Input.StreamOnce Input.Error.observers (listed_tokens (F.returns fits.now) bytes.now) None (λ v. v ≡ bytes.entry) (Unit {0}) (M.first mode) state.old state.new input.old input.new result }
+    ensures refuses { ReasonedListCall Input.StreamOnce Input.Error.observers (listed_tokens (F.returns fits.now) bytes.now) None (M.first mode) state.old input.old input.new result }
 {
     let items = listed_items(bytes);
     match_list(
         &|item: &u8, token: Input::Token| -> bool
-            requires { F.ready fits.now }
-            ensures { F.compares fits.entry.now item.now token result }
+            requires { F.callable fits.now item.now token }
+            ensures { F.returns fits.entry.now item.now token result }
         { fits.fits(*item, token) },
         &items,
         &bytes,

@@ -183,7 +183,7 @@ pub fn string<Input>(s: &'static str) -> Str<Input>
 
 /// Takes as many characters as the text has, as `string` does, each if `cmp` says that it fits.
 ///
-/// `cmp: Fn(char, char) -> bool`.
+/// `cmp: Fn(char, char) -> bool`, or a `Compare`.
 ///
 /// `cmp` is given a character of the text and the token at its place.
 ///

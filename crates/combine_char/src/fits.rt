@@ -2,41 +2,32 @@
 ghost use Rattle.std.specs.Prelude.{◌≡◌};
 ghost use Rattle.combine_char.specs.SpelledLists.{ComparesOnceBy};
 
-/// A comparison of items with tokens.
-pub trait Fits<A, T> {
-    ghost use Rattle.std.specs.Prelude.{Bool, true, false};
+use combine_base::function::Compare;
 
-    /// Holds where it may be called.
-    ghost ready: { Self → Type 0 };
-
-    /// What it may return.
-    ghost compares: { Self → A → T → Bool → Type 0 };
+/// A comparison of items with tokens by which lists are matched.
+pub trait Fits<A, T>: Compare<A, T> {
+    ghost use Rattle.std.specs.Prelude.{true, false};
 
     /// What it owes so that a token isn't found both to fit and not to.
     ghost determined: { Self → Type 0 };
 
-    /// Returns whether the token fits the item.
-    fn fits(&self, item: A, token: T) -> bool
-        requires { ready self.now }
-        ensures { compares self.now item token result };
-
-    ghost single: { (f : Self) → determined f → (a : A) (t : T) → compares f a t true → compares f a t false → ⊥ };
+    ghost single: { (f : Self) → determined f → (a : A) (t : T) → Self.returns f a t true → Self.returns f a t false → ⊥ };
 }
 
 /// A token fits an item that it equals.
 #[derive(Drop)]
 pub struct Equal;
 
-impl<T: PartialEq + Copy> Fits<T, T> for Equal {
-    ghost ready = { λ f. Unit {0} };
-
-    ghost compares = { λ f item token b. b ≡ T.eq token item };
-
-    ghost determined = { λ f. Unit {0} };
+impl<T: PartialEq + Copy> Compare<T, T> for Equal {
+    ghost returns = { λ f item token b. b ≡ T.eq token item };
 
     fn fits(&self, item: T, token: T) -> bool {
         token == item
     }
+}
+
+impl<T: PartialEq + Copy> Fits<T, T> for Equal {
+    ghost determined = { λ f. Unit {0} };
 
     ghost single = { λ f d a t p q. cc };
 }
@@ -45,16 +36,18 @@ impl<T: PartialEq + Copy> Fits<T, T> for Equal {
 #[derive(Drop)]
 pub struct By<C>(pub(crate) C);
 
-impl<A, T, C: Fn(A, T) -> bool> Fits<A, T> for By<C> {
-    ghost ready = { λ f. C.IsAlwaysCallable f.0 };
+impl<A, T, C: Compare<A, T>> Compare<A, T> for By<C> {
+    ghost callable = { λ f. C.callable f.0 };
 
-    ghost compares = { λ f item token b. C.post f.0 item token b };
-
-    ghost determined = { λ f. ComparesOnceBy (λ item token b. C.post f.0 item token b) };
+    ghost returns = { λ f. C.returns f.0 };
 
     fn fits(&self, item: A, token: T) -> bool {
-        (self.0)(item, token)
+        self.0.fits(item, token)
     }
+}
+
+impl<A, T, C: Compare<A, T>> Fits<A, T> for By<C> {
+    ghost determined = { λ f. ComparesOnceBy (C.returns f.0) };
 
     ghost single = { λ f d a t p q. d.once a t p q };
 }

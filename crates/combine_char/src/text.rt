@@ -1,5 +1,5 @@
 //! The characters of a text, matched one by one. Our own, of which `string` and `string_cmp` are made.
-ghost use Rattle.std.specs.Prelude.{◌≡◌, ◌<◌, ◌^◌, None, length};
+ghost use Rattle.std.specs.Prelude.{◌≡◌, ◌<◌, ◌^◌, ℕ, None, length};
 ghost use Rattle.std.specs.Str.{IsUtf8, chars};
 ghost use Rattle.std.specs.Str.Iter.{chars_rest};
 ghost use Rattle.combine_base.specs.Error.Errors.{Only};
@@ -14,6 +14,7 @@ ghost use Rattle.combine_char.specs.SpelledLists.{listed_compares_once, listed_e
 
 use crate::fits::Fits;
 use combine_base::error::{ErrorOffset, Info, ParseError, ParseResult, Tracked};
+use combine_base::function::Compare;
 use combine_base::parser::{Outputs, ParseMode, Parser};
 use combine_base::stream::Stream;
 use combine_token::token::{TokensState, match_list};
@@ -53,13 +54,13 @@ impl<Input, F> Outputs<Input> for TextParser<Input, F> {
 impl<Input: Stream, F: Fits<char, Input::Token>> Parser<Input> for TextParser<Input, F> {
     type PartialState = TokensState;
 
-    ghost lawful = { λ p. F.ready (fits_of_text p) };
+    ghost lawful = { λ p. (item : ℕ) (token : Input.Token) → F.callable (fits_of_text p) item token };
 
     ghost determined = { λ p. F.determined (fits_of_text p) };
 
     ghost valid = { λ s. Unit {0} };
 
-    ghost meaning = { λ p. token_list Input.Error.observers (listed_tokens (F.compares (fits_of_text p)) (chars (text_of_parser p).now)) None (λ v. v ≡ text_of_parser p) matched_before (Unit {0}) (Only (Expected (Fixed (text_of_parser p).now))) };
+    ghost meaning = { λ p. token_list Input.Error.observers (listed_tokens (F.returns (fits_of_text p)) (chars (text_of_parser p).now)) None (λ v. v ≡ text_of_parser p) matched_before (Unit {0}) (Only (Expected (Fixed (text_of_parser p).now))) };
 
     ghost parts = { λ p. 1 };
 
@@ -101,25 +102,14 @@ fn match_text<F, Input: Stream, M: ParseMode>(
     state: &mut TokensState,
 ) -> ParseResult<&'static str, Input::Error>
 where
-    F: Fits<char, Input::Token>,
-    requires { F.ready fits.now }
+    F: Compare<char, Input::Token>,
+    requires { (item : ℕ) (token : Input.Token) → F.callable fits.now item token }
     ensures passes { Passes (Input.marks input.old) (Input.marks input.new) (Input.failures input.old) (Input.failures input.new) }
-    ensures answers { AnswersListCall Input.StreamOnce Input.Error.observers (listed_tokens (F.compares fits.now) (chars text.now)) None (λ v. v ≡ text.entry) (Unit {0}) (M.first mode) state.old state.new input.old input.new result }
-    ensures refuses { ReasonedListCall Input.StreamOnce Input.Error.observers (listed_tokens (F.compares fits.now) (chars text.now)) None (M.first mode) state.old input.old input.new result }
+    ensures answers { AnswersListCall Input.StreamOnce Input.Error.observers (listed_tokens (F.returns fits.now) (chars text.now)) None (λ v. v ≡ text.entry) (Unit {0}) (M.first mode) state.old state.new input.old input.new result }
+    ensures refuses { ReasonedListCall Input.StreamOnce Input.Error.observers (listed_tokens (F.returns fits.now) (chars text.now)) None (M.first mode) state.old input.old input.new result }
 {
     let items = characters(text);
-    match_list(
-        &|item: char, token: Input::Token| -> bool
-            requires { F.ready fits.now }
-            ensures { F.compares fits.entry.now item token result }
-        { fits.fits(item, token) },
-        &items,
-        &text,
-        None,
-        mode,
-        input,
-        state,
-    )
+    match_list(fits, &items, &text, None, mode, input, state)
 }
 
 /// Returns the characters of a text, which are fewer than 2^64.

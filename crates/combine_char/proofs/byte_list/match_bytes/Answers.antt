@@ -9,7 +9,7 @@ match_list-requires-clause-list g c =
 pub returns-clause-answers : goal.returns-clause-answers
 returns-clause-answers g c =
     let k = c.listed_items-items.ensures in
-    let compares = g.F.Fits.compares c.args.fits.now in
+    let compares = g.F.Compare.returns c.args.fits.now in
     let items = c.listed_items-items.result in
     let bytes = c.args.bytes.now in
     given_answers _ _ _ _ _ (slice_within items bytes k.rest compares) (within_slice items bytes k.rest compares) _ _ (λ r. (λ e. e, λ e. e)) _ _ (tt, tt) _ _ _ _ c.match_list.ensures.answers
@@ -17,7 +17,7 @@ returns-clause-answers g c =
 pub returns-clause-refuses : goal.returns-clause-refuses
 returns-clause-refuses g c =
     let k = c.listed_items-items.ensures in
-    let compares = g.F.Fits.compares c.args.fits.now in
+    let compares = g.F.Compare.returns c.args.fits.now in
     let items = c.listed_items-items.result in
     let bytes = c.args.bytes.now in
     spelled_reasons g.Input.Error.ParseError.observers _ _ _ (slice_within items bytes k.rest compares) _ _ _ _ _ c.match_list.ensures.refuses
