@@ -1,6 +1,7 @@
 //! Messages of an input in pieces.
 ghost use Rattle.combine_decode.specs.Messages.{IsMade};
 
+use combine::Maker;
 use combine::decode::{Batch, DecodeError, Decoder, decode_pieces};
 use combine::parser::Parser;
 use combine::parser::byte::lower;
@@ -26,13 +27,13 @@ pub struct Answered<V> {
 pub type Answers<V> = Result<Vec<Answered<V>>, AllocError>;
 
 /// Feeds a decoder these pieces, and returns what it gave for each.
-pub fn answers<F: Fn() -> P + Drop, P: Parser<fed::Stream<u8>> + Drop>(
+pub fn answers<F: Maker<Output = P> + Drop, P: Parser<fed::Stream<u8>> + Drop>(
     alloc: Global,
     maker: F,
     pieces: &[&[u8]],
 ) -> Answers<P::Output>
-    requires callable { F.IsAlwaysCallable maker }
-    requires lawful { IsMade (F.post maker) P.lawful }
+    requires callable { F.callable maker }
+    requires lawful { IsMade (F.returns maker) P.lawful }
 {
     let mut answers = Vec::new(alloc);
     let mut decoder = Decoder::new(alloc, maker);

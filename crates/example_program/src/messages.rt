@@ -1,6 +1,7 @@
 //! Messages from standard input, which comes in pieces.
 ghost use Rattle.combine_decode.specs.Messages.{IsMade};
 
+use combine::Maker;
 use combine::decode::{BatchEnd, Decoder};
 use combine::parser::Parser;
 use combine::stream::fed;
@@ -16,13 +17,12 @@ const PIECE: usize = 4096;
 /// # Errors
 ///
 /// After the messages before it, what is none is refused with an error that says which it would be, and so is an input that ends within one.
-pub fn print_messages<P: Parser<fed::Stream<u8>, Output = String> + Drop, M: Fn() -> P + Drop>(
-    rt: &HostRuntime,
-    what: &str,
-    maker: M,
-) -> io::Result<ExitCode>
-    requires callable { M.IsAlwaysCallable maker }
-    requires lawful { IsMade (M.post maker) P.lawful }
+pub fn print_messages<
+    P: Parser<fed::Stream<u8>, Output = String> + Drop,
+    M: Maker<Output = P> + Drop,
+>(rt: &HostRuntime, what: &str, maker: M) -> io::Result<ExitCode>
+    requires callable { M.callable maker }
+    requires lawful { IsMade (M.returns maker) P.lawful }
 {
     let mut input = rt.reader();
     let mut piece = [0u8; PIECE];

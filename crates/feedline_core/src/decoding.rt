@@ -12,6 +12,7 @@ ghost use Rattle.feedline_core.specs.Lines.{end_line};
 use crate::fault::Fault;
 use crate::lines::{write_end, write_messages};
 use crate::pieces::cut;
+use combine_base::function::Maker;
 use combine_base::parser::Parser;
 use combine_base::stream::{Kind, fed};
 use combine_decode::decode::{Batch, BatchEnd, DecodeError, Decoder, frame};
@@ -41,16 +42,15 @@ pub fn run_frames<W: Write>(
 }
 
 /// Decodes the pieces as one input, writes a line for each message and one for what stands after the last, and answers whether nothing does. Pieces after an end other than `More` are not fed.
-fn decode<F: Fn() -> P + Drop, P: Parser<fed::Stream<u8>, Output = Vec<u8>> + Drop, W: Write>(
-    alloc: Global,
-    maker: F,
-    pieces: &[&[u8]],
-    out: &mut W,
-) -> Result<bool, Fault>
-    requires callable { F.IsAlwaysCallable maker }
-    requires lawful { IsMade (F.post maker) P.lawful }
+fn decode<
+    F: Maker<Output = P> + Drop,
+    P: Parser<fed::Stream<u8>, Output = Vec<u8>> + Drop,
+    W: Write,
+>(alloc: Global, maker: F, pieces: &[&[u8]], out: &mut W) -> Result<bool, Fault>
+    requires callable { F.callable maker }
+    requires lawful { IsMade (F.returns maker) P.lawful }
     requires fits { length (concatenated (map (λ p. p.now) pieces.now)) < 2 ^ 64 }
-    ensures { DecodesInput (made_reading P.meaning (F.post maker)) (concatenated (map (λ p. p.now) pieces.now)) (W.contents out.old) (W.contents out.new) result }
+    ensures { DecodesInput (made_reading P.meaning (F.returns maker)) (concatenated (map (λ p. p.now) pieces.now)) (W.contents out.old) (W.contents out.new) result }
 {
     let mut decoder = Decoder::new(alloc, maker);
     'pieces: for (index, piece) in pieces.iter().enumerate() {
@@ -65,16 +65,16 @@ fn decode<F: Fn() -> P + Drop, P: Parser<fed::Stream<u8>, Output = Vec<u8>> + Dr
 }
 
 /// Feeds a piece, writes the lines of the messages that it completes, and answers why there are no more.
-fn decode_piece<F: Fn() -> P, P: Parser<fed::Stream<u8>, Output = Vec<u8>> + Drop, W: Write>(
-    decoder: &mut Decoder<F, P, u8>,
-    piece: &[u8],
-    out: &mut W,
-) -> Result<BatchEnd, Fault>
-    requires callable { F.IsAlwaysCallable decoder.old.maker }
-    requires lawful { IsMade (F.post decoder.old.maker) P.lawful }
-    requires room { HasRoom (λ f p. F.post f p) P.meaning decoder.old piece.now }
+fn decode_piece<
+    F: Maker<Output = P>,
+    P: Parser<fed::Stream<u8>, Output = Vec<u8>> + Drop,
+    W: Write,
+>(decoder: &mut Decoder<F, P, u8>, piece: &[u8], out: &mut W) -> Result<BatchEnd, Fault>
+    requires callable { F.callable decoder.old.maker }
+    requires lawful { IsMade (F.returns decoder.old.maker) P.lawful }
+    requires room { HasRoom F.returns P.meaning decoder.old piece.now }
     ensures { MatchResult result
-        (λ end. WritesBatch (λ f p. F.post f p) P.meaning decoder.old decoder.new piece.now (W.contents out.old) (W.contents out.new) end)
+        (λ end. WritesBatch F.returns P.meaning decoder.old decoder.new piece.now (W.contents out.old) (W.contents out.new) end)
         (λ why. (why ≡ Fault.Memory) ⊎ (why ≡ Fault.Write)) }
 {
     let batch = feed(decoder, piece)?;
@@ -83,15 +83,15 @@ fn decode_piece<F: Fn() -> P, P: Parser<fed::Stream<u8>, Output = Vec<u8>> + Dro
 }
 
 /// Feeds a piece to a decoder that may go on and can count it.
-fn feed<F: Fn() -> P, P: Parser<fed::Stream<u8>, Output = Vec<u8>> + Drop>(
+fn feed<F: Maker<Output = P>, P: Parser<fed::Stream<u8>, Output = Vec<u8>> + Drop>(
     decoder: &mut Decoder<F, P, u8>,
     piece: &[u8],
 ) -> Result<Batch<Vec<u8>>, Fault>
-    requires callable { F.IsAlwaysCallable decoder.old.maker }
-    requires lawful { IsMade (F.post decoder.old.maker) P.lawful }
-    requires room { HasRoom (λ f p. F.post f p) P.meaning decoder.old piece.now }
+    requires callable { F.callable decoder.old.maker }
+    requires lawful { IsMade (F.returns decoder.old.maker) P.lawful }
+    requires room { HasRoom F.returns P.meaning decoder.old piece.now }
     ensures { MatchResult result
-        (λ batch. Decodes (λ f p. F.post f p) P.meaning decoder.old decoder.new piece.now (Ok batch))
+        (λ batch. Decodes F.returns P.meaning decoder.old decoder.new piece.now (Ok batch))
         (λ why. why ≡ Fault.Memory) }
 {
     match decoder.feed(piece) {

@@ -7,5 +7,5 @@ use Rattle.feedline_core.proofs.decoding.decode.Given as goal
 abbrev pub invariant-pieces : goal.invariant-pieces
 invariant-pieces g l = record {
   maker : l.decoder.maker ≡ l.fn.maker;
-  written : WrittenMessages (λ f p. g.F.Fn.post f tt p) g.P.Parser.meaning l.fn.maker (g.W.Write.contents l.fn.out) (g.W.Write.contents l.out) (concatenated (take l.index (map (λ p. p.now) l.pieces))) l.decoder;
+  written : WrittenMessages g.F.Maker.returns g.P.Parser.meaning l.fn.maker (g.W.Write.contents l.fn.out) (g.W.Write.contents l.out) (concatenated (take l.index (map (λ p. p.now) l.pieces))) l.decoder;
 }
