@@ -16,7 +16,7 @@ pub mod stream;
 
 pub use combine_base::error;
 pub use combine_base::error::{ParseError, ParseResult, StdParseResult, UnexpectedParse};
-pub use combine_base::function::{Function, Maker};
+pub use combine_base::function::{Compare, Function, Lent, Maker, MutFunction, RefFunction};
 pub use combine_choice::choice::choice;
 pub use combine_choice_dispatch::{choice, dispatch};
 pub use combine_decode::decode;

@@ -10,6 +10,7 @@ mod pieces;
 pub mod types;
 
 use combine_base::error::UnexpectedParse;
+use combine_base::function::Maker;
 use combine_base::parser::{Answer, Parser};
 use combine_base::stream::{Kind, fed};
 use combine_byte_num::num::be_u16;
@@ -79,14 +80,14 @@ pub enum Phase {
 /// # Examples
 ///
 /// ```
-/// fn second_batch<F: Fn() -> P + Drop, P: Parser<fed::Stream<u8>> + Drop>(
+/// fn second_batch<F: Maker<Output = P> + Drop, P: Parser<fed::Stream<u8>> + Drop>(
 ///     alloc: Global,
 ///     maker: F,
 ///     first: &[u8],
 ///     second: &[u8],
 /// ) -> Result<Batch<P::Output>, DecodeError>
-///     requires callable { F.IsAlwaysCallable maker }
-///     requires lawful { IsMade (F.post maker) P.lawful }
+///     requires callable { F.callable maker }
+///     requires lawful { IsMade (F.returns maker) P.lawful }
 /// {
 ///     let mut decoder = Decoder::new(alloc, maker);
 ///     decoder.feed(first)?;
@@ -96,7 +97,7 @@ pub enum Phase {
 ///
 /// With `|| frame(alloc)`, and the pieces `b"\0\x02a"` and `b"b"`, the second batch has the message `b"ab"`.
 #[derive(Drop)]
-pub struct Decoder<F: Fn() -> P, P: Parser<fed::Stream<T>>, T: Copy + 'static> {
+pub struct Decoder<F: Maker<Output = P>, P: Parser<fed::Stream<T>>, T: Copy + 'static> {
     alloc: Global,
     maker: F,
     session: Session<P, T>,
@@ -104,7 +105,8 @@ pub struct Decoder<F: Fn() -> P, P: Parser<fed::Stream<T>>, T: Copy + 'static> {
     at_boundary: bool,
 }
 
-impl<F: Fn() -> P, P: Parser<fed::Stream<T>>, T: Copy + 'static> Model for Decoder<F, P, T> {
+impl<F: Maker<Output = P>, P: Parser<fed::Stream<T>>, T: Copy + 'static> Model
+    for Decoder<F, P, T> {
     ghost use Rattle.combine_decode.specs.Decoders.{Decoding};
 
     ghost Value = { Decoding F P T P.PartialState };
@@ -112,7 +114,7 @@ impl<F: Fn() -> P, P: Parser<fed::Stream<T>>, T: Copy + 'static> Model for Decod
     ghost view = { λ d. record { maker = d.maker; course = d.session; phase = d.phase; at_boundary = d.at_boundary } };
 }
 
-impl<F: Fn() -> P, P: Parser<fed::Stream<T>>, T: Copy + 'static> Decoder<F, P, T> {
+impl<F: Maker<Output = P>, P: Parser<fed::Stream<T>>, T: Copy + 'static> Decoder<F, P, T> {
     ghost use Rattle.combine_decode.specs.Decoders.{Decodes, DecoderGoesOn};
 
     /// Returns a decoder that was fed nothing yet, of messages that the maker's parsers read.
@@ -127,10 +129,10 @@ impl<F: Fn() -> P, P: Parser<fed::Stream<T>>, T: Copy + 'static> Decoder<F, P, T
     ///
     /// Nothing is parsed yet, not even what is empty: the first result comes with the first piece.
     pub fn new(alloc: Global, maker: F) -> Self
-        requires callable { F.IsAlwaysCallable maker }
-        requires lawful { IsMade (F.post maker) P.lawful }
+        requires callable { F.callable maker }
+        requires lawful { IsMade (F.returns maker) P.lawful }
         ensures maker { result.maker ≡ maker }
-        ensures stands { DecoderGoesOn (λ f p. F.post f p) P.meaning [] result }
+        ensures stands { DecoderGoesOn F.returns P.meaning [] result }
     {
         let session = begin(alloc, &maker);
         Decoder {
@@ -152,7 +154,7 @@ impl<F: Fn() -> P, P: Parser<fed::Stream<T>>, T: Copy + 'static> Decoder<F, P, T
     }
 }
 
-impl<F: Fn() -> P, P: Parser<fed::Stream<T>> + Drop, T: Copy + 'static> Decoder<F, P, T> {
+impl<F: Maker<Output = P>, P: Parser<fed::Stream<T>> + Drop, T: Copy + 'static> Decoder<F, P, T> {
     ghost use Rattle.combine_decode.specs.Decoders.{Decodes, DecoderGoesOn};
 
     /// Feeds a piece, which may be empty, and returns all messages that it completes.
@@ -174,9 +176,9 @@ impl<F: Fn() -> P, P: Parser<fed::Stream<T>> + Drop, T: Copy + 'static> Decoder<
     ///
     /// Each message is given with the piece that decides it. However the tokens are cut, the messages are the same, and so is the end but for how many tokens a refusal counts, where the maker's parsers share one meaning that has one outcome.
     pub fn feed(&mut self, piece: &[T]) -> Result<Batch<P::Output>, DecodeError>
-        requires callable { F.IsAlwaysCallable self.old.maker }
-        requires lawful { IsMade (F.post self.old.maker) P.lawful }
-        ensures { Decodes (λ f p. F.post f p) P.meaning self.old self.new piece.now result }
+        requires callable { F.callable self.old.maker }
+        requires lawful { IsMade (F.returns self.old.maker) P.lawful }
+        ensures { Decodes F.returns P.meaning self.old self.new piece.now result }
     {
         self.phase.check()?;
         let answer = match self.session.feed(piece) {
@@ -257,45 +259,45 @@ pub fn frame<Input>(alloc: Global) -> Frame<Input>
 }
 
 /// Starts a session of a parser that the maker returns.
-fn begin<F: Fn() -> P, P: Parser<fed::Stream<T>>, T: Copy + 'static>(
+fn begin<F: Maker<Output = P>, P: Parser<fed::Stream<T>>, T: Copy + 'static>(
     alloc: Global,
     maker: &F,
 ) -> Session<P, T>
-    requires callable { F.IsAlwaysCallable maker.now }
-    requires lawful { IsMade (F.post maker.now) P.lawful }
-    ensures { After (made_reading P.meaning (F.post maker.now)) P.meaning [] result × (result.limit ≡ None) }
+    requires callable { F.callable maker.now }
+    requires lawful { IsMade (F.returns maker.now) P.lawful }
+    ensures { After (made_reading P.meaning (F.returns maker.now)) P.meaning [] result × (result.limit ≡ None) }
 {
-    Session::new(alloc, maker())
+    Session::new(alloc, maker.make())
 }
 
 /// Begins the next message on what the last one left unread.
-fn begin_next<F: Fn() -> P, P: Parser<fed::Stream<T>> + Drop, T: Copy + 'static>(
+fn begin_next<F: Maker<Output = P>, P: Parser<fed::Stream<T>> + Drop, T: Copy + 'static>(
     maker: &F,
     session: &mut Session<P, T>,
 ) -> Result<Answer<P::Output, UnexpectedParse>, Kind>
-    requires callable { F.IsAlwaysCallable maker.now }
-    requires lawful { IsMade (F.post maker.now) P.lawful }
+    requires callable { F.callable maker.now }
+    requires lawful { IsMade (F.returns maker.now) P.lawful }
     requires is_open { session.old.seen.is_open ≡ true }
-    ensures { MatchResult result (λ a. AnswersMessage (made_reading P.meaning (F.post maker.now)) P.meaning session.old.seen.unread session.new a × (session.new.limit ≡ session.old.limit)) (λ k. k ≡ kinds.Memory) }
+    ensures { MatchResult result (λ a. AnswersMessage (made_reading P.meaning (F.returns maker.now)) P.meaning session.old.seen.unread session.new a × (session.new.limit ≡ session.old.limit)) (λ k. k ≡ kinds.Memory) }
 {
-    match session.begin_again(maker()) {
+    match session.begin_again(maker.make()) {
         Ok(answer) => Ok(answer),
         Err(_) => Err(Kind::Memory),
     }
 }
 
 /// Returns the messages that follow a result of the session.
-fn drain<F: Fn() -> P, P: Parser<fed::Stream<T>> + Drop, T: Copy + 'static>(
+fn drain<F: Maker<Output = P>, P: Parser<fed::Stream<T>> + Drop, T: Copy + 'static>(
     alloc: Global,
     maker: &F,
     session: &mut Session<P, T>,
     first: Answer<P::Output, UnexpectedParse>,
     boundary: &mut bool,
 ) -> Result<Batch<P::Output>, Kind>
-    requires callable { F.IsAlwaysCallable maker.now }
-    requires lawful { IsMade (F.post maker.now) P.lawful }
+    requires callable { F.callable maker.now }
+    requires lawful { IsMade (F.returns maker.now) P.lawful }
     requires is_open { session.old.seen.is_open ≡ true }
-    ensures { (tokens : _) → AnswersMessage (made_reading P.meaning (F.post maker.now)) P.meaning tokens session.old first → ((boundary.old ≡ true) ↔ (length tokens ≡ 0)) → Drains (made_reading P.meaning (F.post maker.now)) P.meaning tokens session.old session.new boundary.new result }
+    ensures { (tokens : _) → AnswersMessage (made_reading P.meaning (F.returns maker.now)) P.meaning tokens session.old first → ((boundary.old ≡ true) ↔ (length tokens ≡ 0)) → Drains (made_reading P.meaning (F.returns maker.now)) P.meaning tokens session.old session.new boundary.new result }
 {
     let mut messages = Vec::new(alloc);
     let mut answer = first;

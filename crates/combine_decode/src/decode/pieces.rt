@@ -4,6 +4,7 @@ ghost use Rattle.combine_decode.specs.Messages.{IsMade, made_reading};
 ghost use Rattle.combine_decode.specs.DecodedPieces.{DecodesPieces, FeedsMore};
 
 use crate::decode::{Batch, BatchEnd, DecodeError, Decoder};
+use combine_base::function::Maker;
 use combine_base::parser::Parser;
 use combine_base::stream::{Kind, fed};
 use std::alloc::{AllocError, Global};
@@ -39,14 +40,14 @@ use std::alloc::{AllocError, Global};
 /// ```
 ///
 /// Of the pieces `b"a;b"` and `b"c;d"` the messages are `b"a"` and `b"bc"`, and the end is `More`.
-pub fn decode_pieces<F: Fn() -> P + Drop, P: Parser<fed::Stream<T>> + Drop, T: Copy + 'static>(
-    alloc: Global,
-    maker: F,
-    pieces: &[&[T]],
-) -> Result<Batch<P::Output>, DecodeError>
-    requires callable { F.IsAlwaysCallable maker }
-    requires lawful { IsMade (F.post maker) P.lawful }
-    ensures { DecodesPieces (made_reading P.meaning (F.post maker)) (map (λ p. p.now) pieces.now) result }
+pub fn decode_pieces<
+    F: Maker<Output = P> + Drop,
+    P: Parser<fed::Stream<T>> + Drop,
+    T: Copy + 'static,
+>(alloc: Global, maker: F, pieces: &[&[T]]) -> Result<Batch<P::Output>, DecodeError>
+    requires callable { F.callable maker }
+    requires lawful { IsMade (F.returns maker) P.lawful }
+    ensures { DecodesPieces (made_reading P.meaning (F.returns maker)) (map (λ p. p.now) pieces.now) result }
 {
     let mut decoder = Decoder::new(alloc, maker);
     let mut messages = Vec::new(alloc);
@@ -67,14 +68,14 @@ pub fn decode_pieces<F: Fn() -> P + Drop, P: Parser<fed::Stream<T>> + Drop, T: C
 }
 
 /// Feeds a piece, puts its messages after those before, and returns why there are no more.
-fn feed_more<F: Fn() -> P, P: Parser<fed::Stream<T>> + Drop, T: Copy + 'static>(
+fn feed_more<F: Maker<Output = P>, P: Parser<fed::Stream<T>> + Drop, T: Copy + 'static>(
     decoder: &mut Decoder<F, P, T>,
     piece: &[T],
     messages: &mut Vec<P::Output>,
 ) -> Result<BatchEnd, DecodeError>
-    requires callable { F.IsAlwaysCallable decoder.old.maker }
-    requires lawful { IsMade (F.post decoder.old.maker) P.lawful }
-    ensures { FeedsMore (λ f p. F.post f p) P.meaning decoder.old decoder.new piece.now messages.old.items messages.new.items result }
+    requires callable { F.callable decoder.old.maker }
+    requires lawful { IsMade (F.returns decoder.old.maker) P.lawful }
+    ensures { FeedsMore F.returns P.meaning decoder.old decoder.new piece.now messages.old.items messages.new.items result }
 {
     match decoder.feed(piece) {
         Ok(batch) => {

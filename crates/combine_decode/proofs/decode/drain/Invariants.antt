@@ -8,7 +8,7 @@ abbrev pub invariant-messages : goal.invariant-messages
 invariant-messages g l = record {
   is_open : l.session.seen.is_open ≡ true;
   limit : l.session.limit ≡ l.fn.session.limit;
-  far : (tokens : List g.row.T.Denot) → AnswersMessage (made_reading g.P.Parser.meaning (λ p. g.F.Fn.post l.maker tt p)) g.P.Parser.meaning tokens l.fn.session l.fn.first → ((l.fn.boundary ≡ true) ↔ (length tokens ≡ 0)) → GaveMessages (made_reading g.P.Parser.meaning (λ p. g.F.Fn.post l.maker tt p)) g.P.Parser.meaning tokens l.messages.items l.session l.answer l.at_boundary;
+  far : (tokens : List g.row.T.Denot) → AnswersMessage (made_reading g.P.Parser.meaning (g.F.Maker.returns l.maker)) g.P.Parser.meaning tokens l.fn.session l.fn.first → ((l.fn.boundary ≡ true) ↔ (length tokens ≡ 0)) → GaveMessages (made_reading g.P.Parser.meaning (g.F.Maker.returns l.maker)) g.P.Parser.meaning tokens l.messages.items l.session l.answer l.at_boundary;
 }
 
 abbrev pub decreases-messages : goal.decreases-messages

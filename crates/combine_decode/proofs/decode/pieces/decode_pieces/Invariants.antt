@@ -7,5 +7,5 @@ use Rattle.combine_decode.proofs.decode.pieces.decode_pieces.Given as goal
 abbrev pub invariant-pieces : goal.invariant-pieces
 invariant-pieces g l = record {
   maker : l.decoder.maker ≡ l.fn.maker;
-  far : DecoderWasFed (λ f p. g.F.Fn.post f tt p) g.P.Parser.meaning l.fn.maker (concatenated (take l.piece-index (map (λ p. p.now) l.pieces))) l.messages.items l.decoder;
+  far : DecoderWasFed g.F.Maker.returns g.P.Parser.meaning l.fn.maker (concatenated (take l.piece-index (map (λ p. p.now) l.pieces))) l.messages.items l.decoder;
 }
