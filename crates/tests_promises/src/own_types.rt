@@ -3,12 +3,13 @@ ghost use Rattle.std.specs.Prelude.{◌≡◌};
 ghost use Rattle.combine_token.specs.Token.TokenParsers.{token_parser};
 
 use crate::partial::InPieces;
+use combine::parser::byte::bytes_cmp;
 use combine::parser::combinator::{factory, map_input};
 use combine::parser::parse_pieces;
 use combine::parser::repeat::iterate;
 use combine::parser::sequence::{then_partial, then_ref};
 use combine::parser::token::types::Token;
-use combine::parser::token::{any, token, tokens, tokens_cmp};
+use combine::parser::token::{any, token, tokens_cmp};
 use combine::stream::fed;
 use combine::{Compare, Lent, MutFunction, RefFunction};
 use std::alloc::Global;
@@ -95,10 +96,13 @@ impl Compare<u8, u8> for AnyCase {
     }
 }
 
-/// Parses `01`, and twice `ab` in small or capital letters.
-pub fn lists(alloc: Global, pieces: &[&[u8]]) -> InPieces<(Vec<u8>, [u8; 2], [u8; 2])> {
+/// Parses `01`, and `ab` in small or capital letters.
+pub fn lists(alloc: Global, pieces: &[&[u8]]) -> InPieces<(Vec<u8>, &'static [u8])> {
     let items = iterate::<Vec<u8>, _, _>(alloc, b'0'..b'2', Item);
-    let named = tokens(AnyCase, "ab", [b'a', b'b']);
-    let unnamed = tokens_cmp([b'a', b'b'], AnyCase);
-    parse_pieces(alloc, (items, named, unnamed), pieces)
+    parse_pieces(alloc, (items, bytes_cmp(b"ab", AnyCase)), pieces)
+}
+
+/// Parses `ab` in small or capital letters.
+pub fn letters(alloc: Global, pieces: &[&[u8]]) -> InPieces<[u8; 2]> {
+    parse_pieces(alloc, tokens_cmp([b'a', b'b'], AnyCase), pieces)
 }
