@@ -17,4 +17,4 @@ pub returns-clause-answers : goal.returns-clause-answers
 returns-clause-answers g c = spelled_answers _ _ _ _ _ (list_within_same _) (list_within_same _) _ _ _ tt _ _ _ _ c.match_text.ensures.answers
 
 pub returns-clause-refuses : goal.returns-clause-refuses
-returns-clause-refuses g c = list_reasons g.Input.Error.ParseError.observers (listed_tokens (g.F.Fits.compares c.args.self.now.fits) (chars c.args.self.now.text.now)) None (λ v. v ≡ c.args.self.now.text) matched_before (Unit {0}) (Only (Expected (Fixed c.args.self.now.text.now))) (g.M.ParseMode.first c.args.mode) c.args.state.now _ _ _ c.match_text.ensures.refuses
+returns-clause-refuses g c = list_reasons g.Input.Error.ParseError.observers (listed_tokens (g.F.Compare.returns c.args.self.now.fits) (chars c.args.self.now.text.now)) None (λ v. v ≡ c.args.self.now.text) matched_before (Unit {0}) (Only (Expected (Fixed c.args.self.now.text.now))) (g.M.ParseMode.first c.args.mode) c.args.state.now _ _ _ c.match_text.ensures.refuses
