@@ -3,15 +3,13 @@ ghost use Rattle.std.specs.Prelude.{◌≡◌};
 ghost use Rattle.combine_token.specs.Token.TokenParsers.{token_parser};
 
 use crate::partial::InPieces;
-use combine::parser::byte::bytes_cmp;
 use combine::parser::combinator::{factory, map_input};
 use combine::parser::parse_pieces;
-use combine::parser::repeat::iterate;
 use combine::parser::sequence::{then_partial, then_ref};
 use combine::parser::token::types::Token;
 use combine::parser::token::{any, token, tokens_cmp};
 use combine::stream::fed;
-use combine::{Compare, Lent, MutFunction, RefFunction};
+use combine::{Compare, MutFunction, RefFunction};
 use std::alloc::Global;
 
 type Bytes = fed::Stream<u8>;
@@ -72,20 +70,6 @@ pub fn pairs(alloc: Global, pieces: &[&[u8]]) -> InPieces<((u8, u8), u8, (u8, u8
     parse_pieces(alloc, (twice, again, end), pieces)
 }
 
-/// Returns a parser of the item, and leaves the stream in place.
-#[derive(Clone, Copy, Drop)]
-struct Item;
-
-impl MutFunction<Lent<u8>, Bytes> for Item {
-    type Output = Token<Bytes, u8>;
-
-    ghost returns = { λ _ item before made after. (after ≡ before) × (made ≡ token_parser item.0) };
-
-    fn call_mut(&self, item: Lent<u8>, _input: &mut Bytes) -> Token<Bytes, u8> {
-        token(item.0)
-    }
-}
-
 /// Small and capital letters are alike.
 #[derive(Clone, Copy, Drop)]
 struct AnyCase;
@@ -94,12 +78,6 @@ impl Compare<u8, u8> for AnyCase {
     fn fits(&self, item: u8, token: u8) -> bool {
         item.eq_ignore_ascii_case(&token)
     }
-}
-
-/// Parses `01`, and `ab` in small or capital letters.
-pub fn lists(alloc: Global, pieces: &[&[u8]]) -> InPieces<(Vec<u8>, &'static [u8])> {
-    let items = iterate::<Vec<u8>, _, _>(alloc, b'0'..b'2', Item);
-    parse_pieces(alloc, (items, bytes_cmp(b"ab", AnyCase)), pieces)
 }
 
 /// Parses `ab` in small or capital letters.
