@@ -79,7 +79,7 @@ pub trait Frame: Drop {
 /// - What a step's parser refuses is refused, committed if a step before it was.
 /// - What a frame refuses is refused with its message, committed if this step or one before it was.
 /// - A frame too many is refused committed, with the message `nesting too deep`.
-/// - A step that takes no token, and leaves as many frames open as there were, is refused committed, with `repetition takes nothing`.
+/// - A step that takes no token is refused committed, with `repetition takes nothing`, unless fewer frames are open than before it.
 ///
 /// Messages stand at the position where the step began, in the piece in which it ends.
 ///

@@ -145,7 +145,7 @@ impl<P: Parser<fed::Stream<T>>, T: Copy + 'static> Session<P, T> {
     ///
     /// # Partial input
     ///
-    /// The result is `More` exactly where the parser is undecided on all that was fed, open.
+    /// The result is `More` where the parser is undecided on all that was fed, open; if it is `determined`, there alone.
     #[inline]
     pub fn feed(&mut self, piece: &[T]) -> Result<Answer<P::Output, UnexpectedParse>, SessionError>
         ensures { Feeds P.meaning P.valid self.old self.new piece.now true result }
