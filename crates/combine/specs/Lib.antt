@@ -40,6 +40,7 @@ pub use Rattle.combine_repeat.specs.ManyParsers
 pub use Rattle.combine_repeat.specs.Repetition
 pub use Rattle.combine_repeat_chain.specs.ChainParsers
 pub use Rattle.combine_repeat_chain.specs.Chains
+pub use Rattle.combine_repeat_chain.specs.Escapes
 pub use Rattle.combine_repeat_sep_end.specs.Ended
 pub use Rattle.combine_repeat_sep_end.specs.SepEnd
 pub use Rattle.combine_repeat_sep_end.specs.SepEndParsers
@@ -59,6 +60,7 @@ pub use Rattle.combine_stream.specs.Range.TextRanges
 pub use Rattle.combine_char.specs.Restart
 pub use Rattle.combine_char.specs.Bytes
 pub use Rattle.combine_char.specs.Characters
+pub use Rattle.combine_char.specs.Classes
 pub use Rattle.combine_char.specs.NamedParser
 pub use Rattle.combine_char.specs.SpelledLists
 pub use Rattle.combine_char.specs.TextParsers

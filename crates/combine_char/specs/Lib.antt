@@ -11,5 +11,6 @@ pub mod Restart
 pub mod TextParsers
 pub mod Bytes
 pub mod Characters
+pub mod Classes
 pub mod NamedParser
 pub mod SpelledLists

@@ -11,6 +11,7 @@ ghost use Rattle.combine_char.specs.TextParsers.{by, equal, in_class_parser, in_
 ghost use Rattle.combine_token.specs.Token.TokenParsers.{token_parser};
 
 pub mod classes;
+pub mod laws;
 pub mod types;
 
 use crate::class::in_class;

@@ -1,1 +1,2 @@
 pub mod FoldRight
+pub mod EscapedBlocks

@@ -1,13 +1,18 @@
 -- operands and operators, folded from the right
-use Rattle.std.specs.Prelude.{◌≡◌, List, [], ◌∷◌, ◌++◌, Option, Some, None}
+use Rattle.std.specs.Prelude.{◌≡◌, List, [], ◌∷◌, ◌++◌, Option, Some, None, false, ◌↔◌}
 use Rattle.combine_base.specs.Error.Errors.{Observers}
 use Rattle.combine_base.specs.Parser.ValueMap.{mapped}
 use Rattle.combine_base.specs.Parser.Meaning.{Meaning}
+use Rattle.combine_base.specs.Parser.Outcome.{Outcome}
+use Rattle.combine_base.specs.Sequence.Readings.{following}
+use Rattle.combine_base.specs.Stream.View.{View}
 use Rattle.combine_combinator.specs.Tables.{by_table, same_outcome}
 use Rattle.combine_repeat_turns.specs.Turns.Blocks.{Collecting}
 use Rattle.combine_repeat_turns.specs.Turns.Bounds.{gathered}
 use Rattle.combine_repeat_turns.specs.Turns.SoundValues.{KeepsSound, kept_sound}
-use Rattle.combine_repeat_sep.specs.Separated.{lead_good}
+use Rattle.combine_repeat_turns.specs.Repeat.OneThenTurns.{one_then_turns}
+use Rattle.combine_repeat_sep.specs.Pair.{pair}
+use Rattle.combine_repeat_sep.specs.Separated.{first_element, later_turn, lead_good, then_element}
 use Rattle.combine_repeat_sep.specs.Elements.{elements_meaning}
 use Rattle.combine_repeat_sep.specs.declared.separated.Element.{Element}
 use Rattle.combine_repeat_sep.specs.declared.separated.SeparatedState.{SeparatedState}
@@ -85,3 +90,8 @@ module _ {P T R E O V U W : Type 0} (step : P → T → P) (errors : Observers T
     -- the same, of which each call begins again
     abbrev pub chainr1 : Meaning P T R E V U → Meaning P T R E O W → Meaning P T R E V (Unit {0})
     chainr1 m s = by_table same_outcome (right_fold m s) m.adds (right_fold m s).refuses
+
+module _ {P T R E O V U W : Type 0} (step : P → T → P) (errors : Observers T R P E) (m : Meaning P T R E V U) (s : Meaning P T R E O W) where
+  -- the operands are one, and then turns of an operator and an operand
+  abbrev pub OperandsAreOneThenTurns : Type 0
+  OperandsAreOneThenTurns = (v : View P T) (o : Outcome (ChainOperands O V)) → (operands step errors m s).whole v o ↔ one_then_turns step each_operand (following false first_element m.whole) (later_turn then_element (pair step errors s m)).reads v o

@@ -10,6 +10,7 @@ pub use Rattle.combine_combinator.specs.Tables
 pub use Rattle.combine_repeat.specs.ManyParsers
 pub use Rattle.combine_repeat_sep.specs.Elements
 pub use Rattle.combine_repeat_sep.specs.Separated
+pub use Rattle.combine_token.specs.Choice.Choices
 pub use Rattle.combine_token.specs.Choice.Or
 pub use Rattle.combine_token.specs.Token.TokenParsers
 pub use Rattle.combine_repeat_turns.specs.Turns.Bounds
@@ -17,3 +18,4 @@ pub use Rattle.combine_repeat_turns.specs.Turns.SoundValues
 pub use Rattle.combine_repeat_turns.specs.Turns.Blocks
 pub mod Chains
 pub mod ChainParsers
+pub mod Escapes

@@ -4,6 +4,7 @@
 ghost use Rattle.std.specs.Prelude.{◌≡◌};
 ghost use Rattle.combine_repeat_chain.specs.ChainParsers.{chainr1_of, escaped_of};
 
+pub mod laws;
 pub mod types;
 
 use combine_combinator::combinator::{ignore, no_partial};

@@ -4,8 +4,8 @@ pub mod types;
 
 pub use combine_byte_num::num;
 pub use combine_char::byte::{
-    alpha_num, byte, bytes, bytes_cmp, classes, crlf, digit, hex_digit, letter, lower, newline,
-    oct_digit, space, spaces, tab, upper,
+    alpha_num, byte, bytes, bytes_cmp, classes, crlf, digit, hex_digit, laws, letter, lower,
+    newline, oct_digit, space, spaces, tab, upper,
 };
 pub use combine_char::byte_list::ShowsBytes;
 pub use combine_range_search::byte::{

@@ -1,8 +1,7 @@
 //! The parser that `in_class` returns.
 ghost use Rattle.std.specs.Prelude.{◌≡◌};
-ghost use Rattle.combine_base.specs.Error.Errors.{Only};
-ghost use Rattle.combine_base.specs.Error.Items.{Expected, Fixed};
-ghost use Rattle.combine_token.specs.Token.OneToken.{of_function, of_function_is_predicate, satisfied, satisfied_is_test, takes_one, takes_one_is_meaning, takes_one_means_one};
+ghost use Rattle.combine_char.specs.Classes.{takes_member};
+ghost use Rattle.combine_token.specs.Token.OneToken.{of_function, of_function_is_predicate, satisfied, satisfied_is_test, takes_one_is_meaning, takes_one_means_one};
 
 use crate::class::Class;
 use combine_base::error::{ErrorOffset, Info, ParseError, ParseResult, Tracked};
@@ -34,7 +33,7 @@ impl<Input: Stream, C: Class<Input::Token>> Parser<Input> for ClassParser<Input,
 
     ghost valid = { λ s. Unit {0} };
 
-    ghost meaning = { λ p. takes_one Input.Error.observers (satisfied (of_function C.members)) (Unit {0}) (Only (Expected (Fixed C.bytes))) };
+    ghost meaning = { λ p. takes_member Input.Error.observers C.members C.bytes };
 
     ghost parts = { λ p. 1 };
 
