@@ -183,7 +183,7 @@ pub trait ParserExt<Input: Stream>: Parser<Input> {
         error::silent(self)
     }
 
-    /// Makes the errors of this parser stand at the span that it read.
+    /// Makes the errors of this parser's refusals stand at the span that it read.
     final fn spanned(self) -> Spanned<Self>
     where
         Self: Sized,

@@ -123,7 +123,7 @@ pub fn look_ahead<P>(p: P) -> LookAhead<P>
 ///
 /// # Partial input
 ///
-/// At the end of an open piece it is accepted only where `p` is refused there. Else more is asked for, with the stream put back, and the next call begins again.
+/// Where `p` needs more, so does it, with the stream put back, and the next call begins again.
 ///
 /// # Differences from combine
 ///

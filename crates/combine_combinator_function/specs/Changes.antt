@@ -233,11 +233,11 @@ pub record GivesAt {I P T A B : Type 0} (view : I → View P T) (returns : A →
 
 -- bytes that are no text, or a text that is refused
 abbrev pub Misread : {N E : Type 0} → (List ℕ → Result N E → Type 0) → List ℕ → Type 0
-Misread {N} {E} gives bytes = (IsUtf8 bytes → ⊥) ⊎ ((e : E) × gives bytes (Err e))
+Misread {N} {E} gives bytes = (IsUtf8 bytes → ⊥) ⊎ (IsUtf8 bytes × (e : E) × gives bytes (Err e))
 
 -- what is said of them: that UTF-8 was expected, or that the value is invalid
 abbrev pub unreadable : {N E T R : Type 0} → (List ℕ → Result N E → Type 0) → List ℕ → List (ErrorItem T R) → Type 0
-unreadable {N} {E} gives bytes is = ((IsUtf8 bytes → ⊥) × Only (Expected (Fixed (codes "UTF-8"))) is) ⊎ (((e : E) × gives bytes (Err e)) × Only (Message (Fixed (codes "invalid value"))) is)
+unreadable {N} {E} gives bytes is = ((IsUtf8 bytes → ⊥) × Only (Expected (Fixed (codes "UTF-8"))) is) ⊎ ((IsUtf8 bytes × (e : E) × gives bytes (Err e)) × Only (Message (Fixed (codes "invalid value"))) is)
 
 -- an error made at that place that says such items
 pub record MadeSaying {T R P E : Type 0} (s : Observers T R P E) (says : List (ErrorItem T R) → Type 0) (place : P) (e : E) : Type 0 where

@@ -6,13 +6,13 @@ use Rattle.combine_base.specs.Parser.Answer.{World, CallRecord, Answers, Resumes
 use Rattle.combine_base.specs.Parser.Drivers.{Starts}
 use Rattle.combine_base.specs.Parser.DriverAnswers.{NeedsMore}
 use Rattle.combine_base.specs.Parser.KeptParsers.{KeptOf}
-use Rattle.combine_base.specs.Parser.Meaning.{Meaning, Reading, IsMeaning}
+use Rattle.combine_base.specs.Parser.Meaning.{Meaning, Reading, IsMeaning, refusals_begin}
 use Rattle.combine_base.specs.Parser.Reasons.{Reasoned, ReasonedCall}
 use Rattle.combine_base.specs.Sequence.Parts.{RunsFrom, call_from}
 use Rattle.combine_base.specs.Stream.View.{View, extended}
 use Rattle.combine_base.proofs.Parsers.InnerCalls.{InsideCall, KeepsAround, inside_asks, inside_commits, inside_fails, inside_peeks, inside_refuses}
 use Rattle.combine_base.proofs.Parsers.Progress.{Progress, after_none, takes_none}
-use Rattle.combine_base.proofs.Errors.MeantRefusals.{reasoned_into}
+use Rattle.combine_base.proofs.Errors.MeantRefusals.{reasoned_into, reasoned_meant}
 use Rattle.combine_base.proofs.Parsers.SameMeanings.{same_more, same_none}
 use Rattle.combine_base.proofs.Parsers.CallStarts.{in_mode, progress_here}
 use Rattle.combine_base.specs.declared.error.ParseResult.{ParseResult}
@@ -137,7 +137,7 @@ module _ {N Input V U Checkpoint T R P E : Type 0} (p : parser.Ghosts N Input U 
 
     -- and the error of its refusal
     pub reasons_made : IsMeaning fresh p.valid (p.meaning l.parser) → fresh l.state → makes (i.view input) l.parser → ReasonedCall observers all false Unmade (i.view input) (i.view left) y
-    reasons_made h f m = reasoned_into (λ k e x. record { parser = l.parser; made = m; said = (h.reasons l.state f (i.view input) (i.view left) k e).0 x }) g.refuses
+    reasons_made h f m = reasoned_into (λ k e x. record { parser = l.parser; made = m; said = (refusals_begin h l.state f (i.view input) (i.view left) k e).0 x }) (reasoned_meant g.answers g.refuses)
 
     pub reasons_in_place : (old : View P T) → i.view input ≡ old → IsMeaning fresh p.valid (p.meaning l.parser) → fresh l.state → makes old l.parser → ReasonedCall observers all false Unmade old (i.view left) y
     reasons_in_place old e h f m = subst (λ v. ReasonedCall observers all false Unmade v (i.view left) y) e (reasons_made h f (subst (λ v. makes v l.parser) (sym e) m))

@@ -7,7 +7,7 @@ use Rattle.combine_base.specs.Stream.Calls.{Passes}
 use Rattle.combine_base.specs.Error.Items.{ErrorItem}
 use Rattle.combine_base.specs.Parser.Outcome.{Outcome, shape}
 use Rattle.combine_base.specs.Parser.KeptParsers.{KeptOf, means_one_as}
-use Rattle.combine_base.specs.Parser.Meaning.{Meaning, Reading, Refusing, IsReading, IsSingle, IsMeaning, MeansOne, SameReasons}
+use Rattle.combine_base.specs.Parser.Meaning.{Meaning, Reading, Refusing, IsReading, IsSingle, IsMeaning, MeansOne, SameReasons, refusals}
 use Rattle.combine_base.specs.declared.stream.Failures.{Failures}
 use Rattle.combine_combinator_lazy.specs.declared.combinator.made.MadeState.{MadeState}
 use Rattle.combine_combinator_lazy.specs.declared.combinator.made.MadeState.TheVariants.{Unmade, Kept}
@@ -115,7 +115,7 @@ module _ {P T R E V N U : Type 0} (makes : MakesWhere P T N) (means : N → Mean
   pub record RefusesAfresh (v w : View P T) (committed : Bool) (e : E) : Type 0 where
     pub parser : N
     pub made : makes v parser
-    pub said : (means parser).refuses v w committed e
+    pub said : refusals (means parser) v w committed e
 
   -- and a kept one from its state
   abbrev pub made_refuses : MadeState N U → Refusing P T E

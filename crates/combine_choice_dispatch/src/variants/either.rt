@@ -10,7 +10,7 @@ use std::mem::take;
 
 /// One of two parsers, which means the one that it holds; or the state of one of them.
 ///
-/// A kept state of another variant than the parser holds is the beginning.
+/// A kept state of another variant than the parser holds is the beginning, and so is a variant that holds a default state. The latter is what every result but need of more leaves, in the variant of the parser: it may be `Right`, where `Either::default()` is `Left`.
 ///
 /// # Examples
 ///
