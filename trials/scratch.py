@@ -1,5 +1,5 @@
 """Scratch repositories, in which the crates of tests/ and the bench stand beside those of crates/."""
-import os, shutil, subprocess
+import functools, hashlib, os, shutil, subprocess
 
 ROOT = os.path.realpath(f"{os.path.dirname(os.path.realpath(__file__))}/..")
 
@@ -46,6 +46,42 @@ def sources(name):
                 with open(lies, encoding="utf-8") as it:
                     lies = f"{ROOT}/{it.read().strip()}"
             yield (path.removesuffix(".txt").removesuffix(".of") if in_tests else path), lies
+
+
+def with_tests():
+    """Returns the names of the crates of tests/ and the bench that have tests: one without is there for the others."""
+    return [it for it in crates_of_tests() if any("#[test]" in open(file, encoding="utf-8").read() for _, file in sources(it))]
+
+
+@functools.cache
+def version():
+    """Returns what the kit says of itself."""
+    return subprocess.run(["rt", "version"], check=True, capture_output=True).stdout
+
+
+def files_at(path):
+    """Returns a file of the repository, or those below a folder, without what is made."""
+    if os.path.isfile(f"{ROOT}/{path}"):
+        return [path]
+    found = []
+    for at, folders, files in os.walk(f"{ROOT}/{path}"):
+        folders[:] = sorted({*folders} - {"out", "target", "__pycache__"})
+        found += sorted(os.path.relpath(f"{at}/{it}", ROOT) for it in files)
+    return found
+
+
+def key_of(names, paths=()):
+    """Returns what stands for the kit, and for the contents of these crates, of those below them, and of these files and folders."""
+    crates = {**listed(f"{ROOT}/crates.txt"), **crates_of_tests()}
+    found = hashlib.sha256(version())
+    files = [(it, f"{ROOT}/{it}") for path in paths for it in files_at(path)]
+    for crate in sorted({it for name in names for it in below(name, crates)}):
+        found.update(repr(crates[crate]).encode())
+        files += [(f"{crate}/{path}", file) for path, file in sources(crate)]
+    for path, file in files:
+        with open(file, "rb") as it:
+            found.update(f"{path}\n".encode() + hashlib.sha256(it.read()).digest())
+    return found.hexdigest()[:40]
 
 
 def make(folder, names):
