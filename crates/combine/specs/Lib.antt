@@ -131,6 +131,8 @@ pub use Rattle.combine_nested.specs.AlikeFrames
 pub use Rattle.combine_expression.specs.AcceptedSteps
 pub use Rattle.combine_expression.specs.Levels
 pub use Rattle.combine_expression.specs.ExpressionParts
+pub use Rattle.combine_expression.specs.RefusedItems
+pub use Rattle.combine_expression.specs.RefusedSteps
 pub use Rattle.combine_expression.specs.Shapes
 pub use Rattle.combine_expression.specs.SpelledItems
 pub use Rattle.combine_expression.specs.OpenExpressions

@@ -2,3 +2,4 @@ mod CompleteExpressions
 mod PartSteps
 mod Reductions
 mod OpenExpressions
+pub mod AlikeParts

@@ -1,5 +1,5 @@
 -- one thing more of an expression that isn't over
-use Rattle.std.proofs.Common.{rules, ◌≡◌, ℕ, suc, ◌≤◌, ◌<◌, Option, Some, None, Result, Ok, Err, MatchResult, is_some, true, false, nat_le, List, [], ◌∷◌, ◌++◌, length, reverse, sym, ◌∙◌, ap, subst, refl, arith, append_assoc, slice_get, vec_items}
+use Rattle.std.proofs.Common.{rules, ◌≡◌, ℕ, suc, ◌≤◌, ◌<◌, Option, Some, None, Result, Ok, Err, MatchResult, is_some, true, false, nat_le, List, [], ◌∷◌, ◌++◌, length, reverse, sym, ◌∙◌, ap, subst, refl, arith, append_assoc, slice_get, vec_items, codes, inl, inr}
 use Rattle.std.proofs.lemmas.List.{reverse-append}
 use Rattle.std.proofs.lemmas.Option.{slice_get_within}
 use Rattle.combine_expression.specs.declared.expression.Fixity.{Fixity}
@@ -14,7 +14,7 @@ use Rattle.combine_expression.specs.Levels.{Thing, Operand, Prefix, Postfix, Inf
 use Rattle.combine_expression.specs.declared.expression.operands.Fault.{Fault}
 use Rattle.combine_expression.specs.declared.expression.operands.Fault.TheVariants as faults
 use Rattle.combine_expression.specs.Shapes.{ReducedShape, Shape, infix_between, fit, fits, fits_behind, fits_in_front, holds_if, needs_level, reduce_to, sides_of, start, waits_if}
-use Rattle.combine_expression.specs.OpenExpressions.{EndsEarly, AddsThing, HoldsOperand, Misfits, OperatorRefuses, refuses_one_operand, refuses_two_operands, Reduced, ReducedAbove, StandsIn, asked_level, blames, fault_of, held_level, operator_refuses, pends, shape_of, shapes, stands, unless_memory, waits_so}
+use Rattle.combine_expression.specs.OpenExpressions.{AddsThing, Completes, EndsEarly, HoldsOperand, Misfits, Reduced, ReducedAbove, StandsIn, WaitingRefuses, asked_level, blames, fault_of, fit_in, held_level, misfit_text, operator_refuses, pends, refuses_at_end, refuses_before, shape_of, shapes, stands, unless_memory, waits_so}
 use Rattle.combine_expression.proofs.CompleteExpressions.{fits_one, infix_fits, no_misfit, no_open_end, pops, postfix_fits, stays}
 use Rattle.combine_expression.proofs.Reductions.{innermost_of, stands_lower}
 
@@ -139,53 +139,54 @@ module _ {O V : Type 0} {N : ℕ} (changes : O → V → V → Type 0) (joins : 
   abbrev around : List (Pending O V)
   around = reverse (vec_items from.pending)
 
-  abbrev fit_here : Thing O V → Option Shape
-  fit_here t = fit from.levels (shapes around) (held_level from.held) t
+  abbrev pub unfit : Thing O V → Type 0
+  unfit t = Misfits changes joins from t (misfit_text t)
 
-  pub misfits : (t : Thing O V) → fit_here t ≡ None → Misfits changes joins from t
-  misfits t e = record { none = λ ts us w s x. no_misfit from.levels changes joins (ts ++ t ∷ []) us w (fits_one from.levels ts t (shape_of from) None s.fits e) (subst (λ k. IsExpression from.levels changes joins 0 k w) (sym (append_assoc ts (t ∷ []) us)) x) }
+  misfits : (t : Thing O V) → fit_in from t ≡ None → unfit t
+  misfits t e = record { misfits = e; says = refl; none = λ ts us w s x. no_misfit from.levels changes joins (ts ++ t ∷ []) us w (fits_one from.levels ts t (shape_of from) None s.fits e) (subst (λ k. IsExpression from.levels changes joins 0 k w) (sym (append_assoc ts (t ∷ []) us)) x) }
 
-  held_at : (t : Thing O V) (h : Option (Held V)) (x : Option Shape) → from.held ≡ h → fit from.levels (shapes around) (held_level h) t ≡ x → fit_here t ≡ x
+  held_at : (t : Thing O V) (h : Option (Held V)) (x : Option Shape) → from.held ≡ h → fit from.levels (shapes around) (held_level h) t ≡ x → fit_in from t ≡ x
   held_at t h x e i = ap (λ (k : Option (Held V)). fit from.levels (shapes around) (held_level k) t) e ∙ i
 
-  pub operand_misfits : (v : V) → is_some from.held ≡ true → Misfits changes joins from (Operand v)
+  pub operand_misfits : (v : V) → is_some from.held ≡ true → unfit (Operand v)
   operand_misfits v e = let s = some_of from.held e in misfits (Operand v) (held_at (Operand v) (Some s.0) None s.1 refl)
 
-  pub prefix_misfits : (level : ℕ) (o : O) → is_some from.held ≡ true → Misfits changes joins from (Prefix level o)
+  pub prefix_misfits : (level : ℕ) (o : O) → is_some from.held ≡ true → unfit (Prefix level o)
   prefix_misfits level o e = let s = some_of from.held e in misfits (Prefix level o) (held_at (Prefix level o) (Some s.0) None s.1 refl)
 
-  pub prefix_misplaced : (level : ℕ) (o : O) → from.held ≡ None → fits_in_front (slice_get from.levels level) (asked_level around) level ≡ false → Misfits changes joins from (Prefix level o)
+  pub prefix_misplaced : (level : ℕ) (o : O) → from.held ≡ None → fits_in_front (slice_get from.levels level) (asked_level around) level ≡ false → unfit (Prefix level o)
   prefix_misplaced level o e f = misfits (Prefix level o) (held_at (Prefix level o) None None e (ap (λ n. waits_if (fits_in_front (slice_get from.levels level) n level) (shapes around) level level) (asked_needs around) ∙ ap (λ b. waits_if b (shapes around) level level) f))
 
-  pub infix_misfits : (level : ℕ) (o : O) → from.held ≡ None → Misfits changes joins from (Infix level o)
+  pub infix_misfits : (level : ℕ) (o : O) → from.held ≡ None → unfit (Infix level o)
   infix_misfits level o e = misfits (Infix level o) (held_at (Infix level o) None None e refl)
 
-  pub postfix_misfits : (level : ℕ) (o : O) → from.held ≡ None → Misfits changes joins from (Postfix level o)
+  pub postfix_misfits : (level : ℕ) (o : O) → from.held ≡ None → unfit (Postfix level o)
   postfix_misfits level o e = misfits (Postfix level o) (held_at (Postfix level o) None None e refl)
 
-  pub infix_misplaced : (level : ℕ) (o : O) (held : Held V) → from.held ≡ Some held → sides_of level (slice_get from.levels level) ≡ None → Misfits changes joins from (Infix level o)
+  pub infix_misplaced : (level : ℕ) (o : O) (held : Held V) → from.held ≡ Some held → sides_of level (slice_get from.levels level) ≡ None → unfit (Infix level o)
   infix_misplaced level o held e f = misfits (Infix level o) (held_at (Infix level o) (Some held) None e (ap (λ x. infix_between x (reduce_to level (shapes around) held.level) level) f))
 
   module _ (level : ℕ) (o : O) (held left : Held V) (ps : List (Pending O V)) (e : from.held ≡ Some held) (r : reduce_to level (shapes around) held.level ≡ record { slots = shapes (reverse ps); level = left.level }) where
-    pub infix_too_low : (lowest : Lowest) → sides_of level (slice_get from.levels level) ≡ Some lowest → left.level < lowest.left → Misfits changes joins from (Infix level o)
+    pub infix_too_low : (lowest : Lowest) → sides_of level (slice_get from.levels level) ≡ Some lowest → left.level < lowest.left → unfit (Infix level o)
     infix_too_low lowest s l = misfits (Infix level o) (held_at (Infix level o) (Some held) None e (ap (λ x. infix_between x (reduce_to level (shapes around) held.level) level) s ∙ ap (λ (x : ReducedShape). infix_between (Some lowest) x level) r ∙ ap (λ b. waits_if b (shapes (reverse ps)) level lowest.right) (not_le_so lowest.left left.level l)))
 
-    pub postfix_misplaced : fits_behind (slice_get from.levels level) left.level level ≡ false → Misfits changes joins from (Postfix level o)
+    pub postfix_misplaced : fits_behind (slice_get from.levels level) left.level level ≡ false → unfit (Postfix level o)
     postfix_misplaced f = misfits (Postfix level o) (held_at (Postfix level o) (Some held) None e (ap (λ (x : ReducedShape). holds_if (fits_behind (slice_get from.levels level) x.level level) x.slots level) r ∙ ap (λ b. holds_if b (shapes (reverse ps)) level) f))
 
-  pub ends_early : from.held ≡ None → EndsEarly changes joins from
-  ends_early e = record { none = λ ts w s x. no_open_end from.levels changes joins ts (shape_of from) w s.fits (ap held_level e) x }
+  pub ends_early : from.held ≡ None → EndsEarly changes joins from (codes "operand expected")
+  ends_early e = record { awaits = e; says = refl; none = λ ts w s x. no_open_end from.levels changes joins ts (shape_of from) w s.fits (ap held_level e) x }
 
 module _ {O V : Type 0} {N : ℕ} (changes : O → V → V → Type 0) (joins : O → V → V → V → Type 0) (from to : Operands O V N) where
   out_of : (h : Option (Held V)) (ts : List (Thing O V)) → from.held ≡ h → StandsIn changes joins from ts → stands from.levels changes joins (around changes joins from) h ts
   out_of h ts e w = subst (λ k. stands from.levels changes joins (around changes joins from) k ts) e w.stands
 
   -- the shape follows with the things
-  follow : (t : Thing O V) (ps : List (Pending O V)) (h : Option (Held V)) → to.levels ≡ from.levels → reverse (vec_items to.pending) ≡ ps → to.held ≡ h → fit_here changes joins from t ≡ Some (record { slots = shapes ps; held = held_level h }) → ((ts : List (Thing O V)) → StandsIn changes joins from ts → stands from.levels changes joins ps h (ts ++ t ∷ [])) → AddsThing changes joins from to t
+  follow : (t : Thing O V) (ps : List (Pending O V)) (h : Option (Held V)) → to.levels ≡ from.levels → reverse (vec_items to.pending) ≡ ps → to.held ≡ h → fit_in from t ≡ Some (record { slots = shapes ps; held = held_level h }) → ((ts : List (Thing O V)) → StandsIn changes joins from ts → stands from.levels changes joins ps h (ts ++ t ∷ [])) → AddsThing changes joins from to t
   follow t ps h el ep eh f w =
       let i : ◌≡◌ {A = Shape} (record { slots = shapes ps; held = held_level h }) (shape_of to) = ap (λ (x : List (Pending O V)). record { slots = shapes x; held = held_level h }) (sym ep) ∙ ap (λ (y : Option (Held V)). record { slots = shapes (reverse (vec_items to.pending)); held = held_level y }) (sym eh) in
       record {
         levels = el;
+        fits = f ∙ ap (λ (x : Shape). Some x) i;
         stands = λ ts s. record {
           stands = subst (λ (k : List Fixity). stands k changes joins (reverse (vec_items to.pending)) to.held (ts ++ t ∷ [])) (sym el) (subst (λ (k : List (Pending O V)). stands from.levels changes joins k to.held (ts ++ t ∷ [])) (sym ep) (subst (λ (k : Option (Held V)). stands from.levels changes joins ps k (ts ++ t ∷ [])) (sym eh) (w ts s)));
           fits = subst (λ (k : List Fixity). fits k (ts ++ t ∷ []) start ≡ Some (shape_of to)) (sym el) (fits_one from.levels ts t (shape_of from) (Some (shape_of to)) s.fits (f ∙ ap (λ (x : Shape). Some x) i));
@@ -216,24 +217,60 @@ module _ {O V : Type 0} {N : ℕ} (changes : O → V → V → Type 0) (joins : 
         let b = behind_so (slice_get from.levels level) left.level level f in
         follow (Postfix level o) (reverse ps) (Some next) el (ap reverse ep) eh (held_at changes joins from (Postfix level o) (Some held) (Some (record { slots = shapes (reverse ps); held = Some next.level })) e (postfix_fits O V from.levels (shapes (around changes joins from)) held.level level o (record { slots = shapes (reverse ps); level = left.level }) b.0 reduced.shape b.1 ∙ ap (λ n. Some (record { slots = shapes (reverse ps); held = Some n })) (sym r.level))) (λ ts w. postfix_so from.levels changes joins (reverse ps) ts level o left next b.0 reduced.low b.1 r (reduced.holds from.levels ts (out_of (Some held) ts e w)))
 
-module _ {O V : Type 0} (refuses_operand : O → V → Type 0) (refuses_operands : O → V → V → Type 0) where
-  refuses_so : (o : O) (left : Option V) (right : V) → operator_refuses refuses_operand refuses_operands o left right → OperatorRefuses refuses_operand refuses_operands
-  refuses_so o None b r = refuses_one_operand o b r
-  refuses_so o (Some a) b r = refuses_two_operands o a b r
-
-  pub operator_blames : (o : O) (left : Option V) (right : V) (e : OperatorError) → unless_memory (operator_refuses refuses_operand refuses_operands o left right) e → blames refuses_operand refuses_operands ⊥ (fault_of e)
-  operator_blames o left right (operator_errors.Refused m) r = refuses_so o left right r
+module _ {O V : Type 0} (refuses_operand : O → V → List ℕ → Type 0) (refuses_operands : O → V → V → List ℕ → Type 0) where
+  pub operator_blames : (o : O) (left : Option V) (right : V) (e : OperatorError) → unless_memory (operator_refuses refuses_operand refuses_operands o left right) e → blames (λ _. ⊥) (operator_refuses refuses_operand refuses_operands o left right) (fault_of e)
+  operator_blames o left right (operator_errors.Refused m) r = r
   operator_blames o left right operator_errors.Memory r = tt
 
-  pub blames_any : (misfit : Type 0) (x : Fault) → blames refuses_operand refuses_operands ⊥ x → blames refuses_operand refuses_operands misfit x
-  blames_any misfit faults.Memory b = tt
-  blames_any misfit (faults.Misfit m) b = absurd b
-  blames_any misfit (faults.Refused m) b = b
+  blames_so : (misfits refuses other : List ℕ → Type 0) → ((m : List ℕ) → refuses m → other m) → (x : Fault) → blames (λ _. ⊥) refuses x → blames misfits other x
+  blames_so misfits refuses other h faults.Memory b = tt
+  blames_so misfits refuses other h (faults.Misfit m) b = absurd b
+  blames_so misfits refuses other h (faults.Refused m) b = h m.now b
 
-module _ {O V : Type 0} {N : ℕ} (changes : O → V → V → Type 0) (joins : O → V → V → V → Type 0) (refuses_operand : O → V → Type 0) (refuses_operands : O → V → V → Type 0) where
-  closes : (from : Operands O V N) (held : Held V) (v : V) → from.held ≡ Some held → ((levels : List Fixity) (ts : List (Thing O V)) → HoldsOperand levels changes joins (reverse (vec_items from.pending)) held ts → IsExpression levels changes joins 0 ts v) → (ts : List (Thing O V)) → StandsIn changes joins from ts → IsExpression from.levels changes joins 0 ts v
-  closes from held v e h ts w = h from.levels ts (subst (λ (k : Option (Held V)). stands from.levels changes joins (reverse (vec_items from.pending)) k ts) e w.stands)
+  module _ (changes : O → V → V → Type 0) (joins : O → V → V → V → Type 0) where
+    -- the innermost refuses
+    pub pop_refuses : (xs ys : List (Pending O V)) (p : Pending O V) (held : Held V) (is_read : List Fixity → List (Thing O V) → Type 0) (is_complete : ℕ → Type 0) (x : Fault) → xs ≡ ys ++ p ∷ [] → ((levels : List Fixity) (ts : List (Thing O V)) → is_read levels ts → HoldsOperand levels changes joins (reverse xs) held ts) → is_complete (asked_level (reverse xs)) → blames (λ _. ⊥) (operator_refuses refuses_operand refuses_operands p.operator p.left held.value) x → blames (λ _. ⊥) (λ m. (levels : List Fixity) → WaitingRefuses refuses_operand refuses_operands changes joins levels (is_read levels) is_complete m) x
+    pop_refuses xs ys p held is_read is_complete x e h c b =
+        let i : reverse xs ≡ p ∷ reverse ys = innermost_of xs ys p e in
+        blames_so (λ _. ⊥) (operator_refuses refuses_operand refuses_operands p.operator p.left held.value) (λ m. (levels : List Fixity) → WaitingRefuses refuses_operand refuses_operands changes joins levels (is_read levels) is_complete m) (λ m r levels. record {
+          waits = p;
+          others = reverse ys;
+          held = held;
+          holds = λ ts k. subst (λ ps. HoldsOperand levels changes joins ps held ts) i (h levels ts k);
+          complete = subst (λ (ps : List (Pending O V)). is_complete (asked_level ps)) i c;
+          refuses = r;
+        }) x b
 
-  pub closes_so : (from : Operands O V N) (held : Held V) (r : Result V Fault) → from.held ≡ Some held → MatchResult r (λ v. (levels : List Fixity) (ts : List (Thing O V)) → HoldsOperand levels changes joins (reverse (vec_items from.pending)) held ts → IsExpression levels changes joins 0 ts v) (blames refuses_operand refuses_operands ⊥) → MatchResult r (λ v. (ts : List (Thing O V)) → StandsIn changes joins from ts → IsExpression from.levels changes joins 0 ts v) (blames refuses_operand refuses_operands (EndsEarly changes joins from))
-  closes_so from held (Ok v) e h = closes from held v e h
-  closes_so from held (Err x) e h = blames_any refuses_operand refuses_operands (EndsEarly changes joins from) x h
+    module _ {N : ℕ} (from : Operands O V N) (held : Held V) (is_held : from.held ≡ Some held) where
+      abbrev held_so : List Fixity → List (Thing O V) → Type 0
+      held_so levels = HoldsOperand levels changes joins (reverse (vec_items from.pending)) held
+
+      -- one of those that wait refuses
+      waiting_so : (is_complete : ℕ → Type 0) (m : List ℕ) → ((levels : List Fixity) → WaitingRefuses refuses_operand refuses_operands changes joins levels (held_so levels) is_complete m) → WaitingRefuses refuses_operand refuses_operands changes joins from.levels (StandsIn changes joins from) is_complete m
+      waiting_so is_complete m h =
+          let w = h from.levels in
+          record { waits = w.waits; others = w.others; held = w.held; holds = λ ts s. w.holds ts (out_of changes joins from from (Some held) ts is_held s); complete = w.complete; refuses = w.refuses }
+
+      pub infix_refused : (level : ℕ) (o : O) (x : Fault) → blames (λ _. ⊥) (λ m. (levels : List Fixity) → WaitingRefuses refuses_operand refuses_operands changes joins levels (held_so levels) (λ a. level < a) m) x → blames (Misfits changes joins from (Infix level o)) (refuses_before refuses_operand refuses_operands changes joins from (Infix level o)) x
+      infix_refused level o x b = blames_so (Misfits changes joins from (Infix level o)) (λ m. (levels : List Fixity) → WaitingRefuses refuses_operand refuses_operands changes joins levels (held_so levels) (λ a. level < a) m) (refuses_before refuses_operand refuses_operands changes joins from (Infix level o)) (waiting_so (λ a. level < a)) x b
+
+      pub postfix_refused : (level : ℕ) (o : O) (x : Fault) → blames (λ _. ⊥) (λ m. (levels : List Fixity) → WaitingRefuses refuses_operand refuses_operands changes joins levels (held_so levels) (λ a. level < a) m) x → blames (Misfits changes joins from (Postfix level o)) (refuses_before refuses_operand refuses_operands changes joins from (Postfix level o)) x
+      postfix_refused level o x b = blames_so (Misfits changes joins from (Postfix level o)) (λ m. (levels : List Fixity) → WaitingRefuses refuses_operand refuses_operands changes joins levels (held_so levels) (λ a. level < a) m) (refuses_before refuses_operand refuses_operands changes joins from (Postfix level o)) (λ m h. inl (waiting_so (λ a. level < a) m h)) x b
+
+      -- the postfix operator itself
+      pub postfix_refuses : (level : ℕ) (o : O) (left : Held V) (ps : List (Pending O V)) (x : Fault) → ReducedAbove changes joins (vec_items from.pending) ps held level left → fits_behind (slice_get from.levels level) left.level level ≡ true → blames (λ _. ⊥) (refuses_operand o left.value) x → blames (Misfits changes joins from (Postfix level o)) (refuses_before refuses_operand refuses_operands changes joins from (Postfix level o)) x
+      postfix_refuses level o left ps x reduced f b =
+          let k = behind_so (slice_get from.levels level) left.level level f in
+          blames_so (Misfits changes joins from (Postfix level o)) (refuses_operand o left.value) (refuses_before refuses_operand refuses_operands changes joins from (Postfix level o)) (λ m r. inr (record {
+            others = reverse ps;
+            held = left;
+            holds = λ ts s. reduced.holds from.levels ts (out_of changes joins from from (Some held) ts is_held s);
+            fits = reduced.low;
+            is_postfix = k.0;
+            stands = k.1;
+            refuses = r;
+          })) x b
+
+      pub closes_so : (r : Result V Fault) → MatchResult r (λ v. (levels : List Fixity) (ts : List (Thing O V)) → held_so levels ts → IsExpression levels changes joins 0 ts v) (blames (λ _. ⊥) (λ m. (levels : List Fixity) → WaitingRefuses refuses_operand refuses_operands changes joins levels (held_so levels) (λ _. Unit {0}) m)) → MatchResult r (Completes changes joins from) (blames (EndsEarly changes joins from) (refuses_at_end refuses_operand refuses_operands changes joins from))
+      closes_so (Ok v) h = record { holds = ap is_some is_held; is_expression = λ ts s. h from.levels ts (out_of changes joins from from (Some held) ts is_held s) }
+      closes_so (Err x) h = blames_so (EndsEarly changes joins from) (λ m. (levels : List Fixity) → WaitingRefuses refuses_operand refuses_operands changes joins levels (held_so levels) (λ _. Unit {0}) m) (refuses_at_end refuses_operand refuses_operands changes joins from) (waiting_so (λ _. Unit {0})) x h

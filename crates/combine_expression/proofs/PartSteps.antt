@@ -8,16 +8,16 @@ use Rattle.combine_expression.specs.declared.expression.operands.Operands.{Opera
 use Rattle.combine_expression.specs.declared.expression.operands.Fault.{Fault}
 use Rattle.combine_expression.specs.declared.expression.operands.Fault.TheVariants as faults
 use Rattle.combine_expression.specs.declared.expression.types.Part.{Part}
-use Rattle.combine_expression.specs.Levels.{IsExpression, Thing, Operand, Prefix, Postfix, Infix}
-use Rattle.combine_expression.specs.OpenExpressions.{EndsEarly, AddsThing, Misfits, StandsIn, blames}
+use Rattle.combine_expression.specs.Levels.{Thing, Operand, Prefix, Postfix, Infix}
+use Rattle.combine_expression.specs.OpenExpressions.{AddsThing, Completes, EndsEarly, Misfits, blames, refuses_at_end, refuses_before}
 use Rattle.combine_expression.specs.ExpressionParts.{closed_as, closes_part, takes_thing, part_takes, stayed_as}
 
-module _ {O V : Type 0} {N : ℕ} (changes : O → V → V → Type 0) (joins : O → V → V → V → Type 0) (refuses_operand : O → V → Type 0) (refuses_operands : O → V → V → Type 0) where
+module _ {O V : Type 0} {N : ℕ} (changes : O → V → V → Type 0) (joins : O → V → V → V → Type 0) (refuses_operand : O → V → List ℕ → Type 0) (refuses_operands : O → V → V → List ℕ → Type 0) where
   abbrev follows_so : Part O V N → Thing O V → Result (Operands O V N) Fault → Type 0
-  follows_so p t r = MatchResult r (λ e. AddsThing changes joins p.operands e t) (blames refuses_operand refuses_operands (Misfits changes joins p.operands t))
+  follows_so p t r = MatchResult r (λ e. AddsThing changes joins p.operands e t) (blames (Misfits changes joins p.operands t) (refuses_before refuses_operand refuses_operands changes joins p.operands t))
 
   abbrev closes_so : Part O V N → Result V Fault → Type 0
-  closes_so p r = MatchResult r (λ v. (ts : List (Thing O V)) → StandsIn changes joins p.operands ts → IsExpression p.operands.levels changes joins 0 ts v) (blames refuses_operand refuses_operands (EndsEarly changes joins p.operands))
+  closes_so p r = MatchResult r (Completes changes joins p.operands) (blames (EndsEarly changes joins p.operands) (refuses_at_end refuses_operand refuses_operands changes joins p.operands))
 
   next_goes : (p : Part O V N) (t : Thing O V) (r : Result (Operands O V N) Fault) (n : Next (Part O V N) V) → follows_so p t r → stayed_as p.in_brackets r n → takes_thing changes joins refuses_operand refuses_operands p t n
   next_goes p t (Ok e) (nexts.Stay q) f s = record { in_brackets = s.0; follows = subst (λ k. AddsThing changes joins p.operands k t) (sym s.1) f }
@@ -28,11 +28,11 @@ module _ {O V : Type 0} {N : ℕ} (changes : O → V → V → Type 0) (joins : 
   next_goes p t (Err x) (nexts.Open q r) f s = absurd s
   next_goes p t (Err x) (nexts.Close v) f s = absurd s
   next_goes p t (Err faults.Memory) (nexts.Refuse m) f s = absurd s
-  next_goes p t (Err (faults.Misfit x)) (nexts.Refuse m) f s = inl f
-  next_goes p t (Err (faults.Refused x)) (nexts.Refuse m) f s = inr f
+  next_goes p t (Err (faults.Misfit x)) (nexts.Refuse m) f s = inl (subst (Misfits changes joins p.operands t) (sym s) f)
+  next_goes p t (Err (faults.Refused x)) (nexts.Refuse m) f s = inr (subst (refuses_before refuses_operand refuses_operands changes joins p.operands t) (sym s) f)
 
   next_closes : (p : Part O V N) (r : Result V Fault) (n : Next (Part O V N) V) → closes_so p r → closed_as r n → closes_part changes joins refuses_operand refuses_operands p n
-  next_closes p (Ok v) (nexts.Close w) f s = λ ts k. subst (λ x. IsExpression p.operands.levels changes joins 0 ts x) (sym s) (f ts k)
+  next_closes p (Ok v) (nexts.Close w) f s = subst (Completes changes joins p.operands) (sym s) f
   next_closes p (Ok v) (nexts.Open q r) f s = absurd s
   next_closes p (Ok v) (nexts.Stay q) f s = absurd s
   next_closes p (Ok v) (nexts.Refuse m) f s = absurd s
@@ -40,8 +40,8 @@ module _ {O V : Type 0} {N : ℕ} (changes : O → V → V → Type 0) (joins : 
   next_closes p (Err x) (nexts.Open q r) f s = absurd s
   next_closes p (Err x) (nexts.Close v) f s = absurd s
   next_closes p (Err faults.Memory) (nexts.Refuse m) f s = absurd s
-  next_closes p (Err (faults.Misfit x)) (nexts.Refuse m) f s = inl f
-  next_closes p (Err (faults.Refused x)) (nexts.Refuse m) f s = inr f
+  next_closes p (Err (faults.Misfit x)) (nexts.Refuse m) f s = inl (subst (EndsEarly changes joins p.operands) (sym s) f)
+  next_closes p (Err (faults.Refused x)) (nexts.Refuse m) f s = inr (subst (refuses_at_end refuses_operand refuses_operands changes joins p.operands) (sym s) f)
 
   pub stayed_goes : {A : Type 0} (p : Part O V N) (t : Thing O V) (r : Result (Operands O V N) Fault) (x : Result (Next (Part O V N) V) A) → follows_so p t r → MatchResult x (stayed_as p.in_brackets r) (λ _. Unit {0}) → MatchResult x (takes_thing changes joins refuses_operand refuses_operands p t) (λ _. Unit {0})
   stayed_goes p t r (Ok n) f s = next_goes p t r n f s

@@ -11,8 +11,8 @@ use Rattle.combine_expression.specs.declared.expression.operands.Fault.{Fault}
 use Rattle.combine_expression.specs.declared.expression.operands.Fault.TheVariants as faults
 use Rattle.combine_expression.specs.declared.expression.types.Outermost.{Outermost}
 use Rattle.combine_expression.specs.declared.expression.types.Part.{Part}
-use Rattle.combine_expression.specs.Levels.{Thing, Operand, Prefix, Postfix, Infix, IsExpression}
-use Rattle.combine_expression.specs.OpenExpressions.{EndsEarly, AddsThing, Misfits, OperatorRefuses, StandsIn}
+use Rattle.combine_expression.specs.Levels.{Thing, Operand, Prefix, Postfix, Infix}
+use Rattle.combine_expression.specs.OpenExpressions.{AddsThing, Completes, EndsEarly, Misfits, refuses_at_end, refuses_before, shape_of}
 
 -- a part of which nothing was read
 pub record BeginsPart {O V : Type 0} {N : ℕ} (levels : List Fixity) (in_brackets : Bool) (part : Part O V N) : Type 0 where
@@ -31,8 +31,8 @@ stayed_as b (Err f) (nexts.Stay q) = ⊥
 stayed_as b (Err f) (nexts.Open q r) = ⊥
 stayed_as b (Err f) (nexts.Close v) = ⊥
 stayed_as b (Err faults.Memory) (nexts.Refuse m) = ⊥
-stayed_as b (Err (faults.Misfit f)) (nexts.Refuse m) = Unit {0}
-stayed_as b (Err (faults.Refused f)) (nexts.Refuse m) = Unit {0}
+stayed_as b (Err (faults.Misfit f)) (nexts.Refuse m) = m.now ≡ f.now
+stayed_as b (Err (faults.Refused f)) (nexts.Refuse m) = m.now ≡ f.now
 
 -- what comes of a part that was closed so
 abbrev pub closed_as : {O V : Type 0} {N : ℕ} → Result V Fault → Next (Part O V N) V → Type 0
@@ -44,10 +44,10 @@ closed_as (Err f) (nexts.Stay q) = ⊥
 closed_as (Err f) (nexts.Open q r) = ⊥
 closed_as (Err f) (nexts.Close w) = ⊥
 closed_as (Err faults.Memory) (nexts.Refuse m) = ⊥
-closed_as (Err (faults.Misfit f)) (nexts.Refuse m) = Unit {0}
-closed_as (Err (faults.Refused f)) (nexts.Refuse m) = Unit {0}
+closed_as (Err (faults.Misfit f)) (nexts.Refuse m) = m.now ≡ f.now
+closed_as (Err (faults.Refused f)) (nexts.Refuse m) = m.now ≡ f.now
 
-module _ {O V : Type 0} {N : ℕ} (changes : O → V → V → Type 0) (joins : O → V → V → V → Type 0) (refuses_operand : O → V → Type 0) (refuses_operands : O → V → V → Type 0) where
+module _ {O V : Type 0} {N : ℕ} (changes : O → V → V → Type 0) (joins : O → V → V → V → Type 0) (refuses_operand : O → V → List ℕ → Type 0) (refuses_operands : O → V → V → List ℕ → Type 0) where
   -- one comes of the other by one thing more
   pub record PartAddsThing (from to : Part O V N) (t : Thing O V) : Type 0 where
     pub in_brackets : to.in_brackets ≡ from.in_brackets
@@ -58,7 +58,7 @@ module _ {O V : Type 0} {N : ℕ} (changes : O → V → V → Type 0) (joins : 
   takes_thing p t (nexts.Stay q) = PartAddsThing p q t
   takes_thing p t (nexts.Open q r) = ⊥
   takes_thing p t (nexts.Close v) = ⊥
-  takes_thing p t (nexts.Refuse m) = Misfits changes joins p.operands t ⊎ OperatorRefuses refuses_operand refuses_operands
+  takes_thing p t (nexts.Refuse m) = Misfits changes joins p.operands t m.now ⊎ refuses_before refuses_operand refuses_operands changes joins p.operands t m.now
 
   -- a part in brackets begins inside it
   abbrev pub opens_part : Part O V N → Next (Part O V N) V → Type 0
@@ -67,12 +67,12 @@ module _ {O V : Type 0} {N : ℕ} (changes : O → V → V → Type 0) (joins : 
   opens_part p (nexts.Close v) = ⊥
   opens_part p (nexts.Refuse m) = ⊥
 
-  -- it is closed with the value of what was read of it, an expression of the lowest level; or that is none, or an operator refuses
+  -- it is closed with the value of what was read of it; or that is no expression, or an operator refuses
   abbrev pub closes_part : Part O V N → Next (Part O V N) V → Type 0
   closes_part p (nexts.Stay q) = ⊥
   closes_part p (nexts.Open q r) = ⊥
-  closes_part p (nexts.Close v) = (ts : List (Thing O V)) → StandsIn changes joins p.operands ts → IsExpression p.operands.levels changes joins 0 ts v
-  closes_part p (nexts.Refuse m) = EndsEarly changes joins p.operands ⊎ OperatorRefuses refuses_operand refuses_operands
+  closes_part p (nexts.Close v) = Completes changes joins p.operands v
+  closes_part p (nexts.Refuse m) = EndsEarly changes joins p.operands m.now ⊎ refuses_at_end refuses_operand refuses_operands changes joins p.operands m.now
 
   -- what comes of an item
   abbrev pub part_takes : Part O V N → Item O V → Next (Part O V N) V → Type 0
@@ -95,3 +95,27 @@ pub record MakesOutermost {O V : Type 0} {N : ℕ} (alloc : Global) (levels : Li
 -- whether an operand is awaited
 abbrev pub awaits : {O V : Type 0} {N : ℕ} → Part O V N → Bool
 awaits p = is_none p.operands.held
+
+-- parts that differ in values, and in operators of the same levels, alone
+pub record PartsAlike {O V : Type 0} {N : ℕ} (part other : Part O V N) : Type 0 where
+  pub same_levels : part.operands.levels ≡ other.operands.levels
+  pub same_brackets : part.in_brackets ≡ other.in_brackets
+  pub same_shape : shape_of part.operands ≡ shape_of other.operands
+
+module _ {O V : Type 0} where
+  -- items of the same kind, and operators of the same level
+  pub data ItemsAlike : Item O V → Item O V → Type 0 where
+    operands : (v w : V) → ItemsAlike (items.Operand v) (items.Operand w)
+    prefixes : (l : ℕ) (o p : O) → ItemsAlike (items.Prefix l o) (items.Prefix l p)
+    postfixes : (l : ℕ) (o p : O) → ItemsAlike (items.Postfix l o) (items.Postfix l p)
+    infixes : (l : ℕ) (o p : O) → ItemsAlike (items.Infix l o) (items.Infix l p)
+    opening : ItemsAlike items.Open items.Open
+    closing : ItemsAlike items.Close items.Close
+
+  pub like_itself : (i : Item O V) → ItemsAlike i i
+  like_itself (items.Operand v) = operands v v
+  like_itself (items.Prefix l o) = prefixes l o o
+  like_itself (items.Postfix l o) = postfixes l o o
+  like_itself (items.Infix l o) = infixes l o o
+  like_itself items.Open = opening
+  like_itself items.Close = closing

@@ -1,5 +1,5 @@
 -- expressions that aren't over
-use Rattle.std.specs.Prelude.{◌≡◌, ℕ, ◌≤◌, List, [], ◌∷◌, ◌++◌, reverse, slice_get, vec_items}
+use Rattle.std.specs.Prelude.{◌≡◌, ℕ, ◌≤◌, ◌<◌, ◌⊎◌, true, is_some, List, [], ◌∷◌, ◌++◌, codes, reverse, slice_get, vec_items}
 use Rattle.std.specs.Prelude.{Option, Some, None}
 use Rattle.combine_expression.specs.declared.expression.Fixity.{Fixity}
 use Rattle.combine_expression.specs.declared.expression.Fixity.TheVariants as fixities
@@ -11,8 +11,8 @@ use Rattle.combine_expression.specs.declared.expression.operands.Operands.{Opera
 use Rattle.combine_expression.specs.declared.expression.operands.Lowest.{Lowest}
 use Rattle.combine_expression.specs.declared.expression.operands.Fault.{Fault}
 use Rattle.combine_expression.specs.declared.expression.operands.Fault.TheVariants as faults
-use Rattle.combine_expression.specs.Shapes.{Shape, Slot, fits, reduce_to, sides_of, start}
-use Rattle.combine_expression.specs.Levels.{Thing, Prefix, Infix, IsExpression}
+use Rattle.combine_expression.specs.Shapes.{Shape, Slot, fit, fits, reduce_to, sides_of, start}
+use Rattle.combine_expression.specs.Levels.{Thing, Operand, Prefix, Postfix, Infix, IsExpression}
 
 -- the lowest level that the operand may have that operators wait for, the innermost first
 abbrev pub asked_level : {O V : Type 0} → List (Pending O V) → ℕ
@@ -87,6 +87,17 @@ held_level (Some h) = Some h.level
 abbrev pub shape_of : {O V : Type 0} {N : ℕ} → Operands O V N → Shape
 shape_of e = record { slots = shapes (reverse (vec_items e.pending)); held = held_level e.held }
 
+-- the shape with one thing more, where it fits
+abbrev pub fit_in : {O V : Type 0} {N : ℕ} → Operands O V N → Thing O V → Option Shape
+fit_in e t = fit e.levels (shapes (reverse (vec_items e.pending))) (held_level e.held) t
+
+-- what is said of a thing that doesn't fit
+abbrev pub misfit_text : {O V : Type 0} → Thing O V → List ℕ
+misfit_text (Operand v) = codes "operand cannot stand here"
+misfit_text (Prefix l o) = codes "operator cannot stand here"
+misfit_text (Postfix l o) = codes "operator cannot stand here"
+misfit_text (Infix l o) = codes "operator cannot stand here"
+
 module _ {O V : Type 0} (changes : O → V → V → Type 0) (joins : O → V → V → V → Type 0) where
   -- what becomes of operators that wait, and of the operand, where those that ask for more than a level are given theirs
   pub record ReducedAbove (old new : List (Pending O V)) (held : Held V) (level : ℕ) (h : Held V) : Type 0 where
@@ -103,19 +114,29 @@ module _ {O V : Type 0} {N : ℕ} (changes : O → V → V → Type 0) (joins : 
   -- one comes of the other by one thing more
   pub record AddsThing (from to : Operands O V N) (t : Thing O V) : Type 0 where
     pub levels : to.levels ≡ from.levels
+    pub fits : fit_in from t ≡ Some (shape_of to)
     pub stands : (ts : List (Thing O V)) → StandsIn from ts → StandsIn to (ts ++ t ∷ [])
 
-  -- no expression begins with what was read and this thing
-  pub record Misfits (from : Operands O V N) (t : Thing O V) : Type 0 where
+  -- no expression begins with what was read and this thing, which a message says
+  pub record Misfits (from : Operands O V N) (t : Thing O V) (message : List ℕ) : Type 0 where
+    pub misfits : fit_in from t ≡ None
     pub none : (ts us : List (Thing O V)) (w : V) → StandsIn from ts → IsExpression from.levels changes joins 0 (ts ++ t ∷ us) w → ⊥
+    pub says : message ≡ misfit_text t
 
-  -- what was read is no expression
-  pub record EndsEarly (from : Operands O V N) : Type 0 where
+  -- what was read is an expression, of this value
+  pub record Completes (from : Operands O V N) (v : V) : Type 0 where
+    pub holds : is_some from.held ≡ true
+    pub is_expression : (ts : List (Thing O V)) → StandsIn from ts → IsExpression from.levels changes joins 0 ts v
+
+  -- what was read is no expression, which a message says
+  pub record EndsEarly (from : Operands O V N) (message : List ℕ) : Type 0 where
+    pub awaits : from.held ≡ None
     pub none : (ts : List (Thing O V)) (w : V) → StandsIn from ts → IsExpression from.levels changes joins 0 ts w → ⊥
+    pub says : message ≡ codes "operand expected"
 
--- an operator that makes no value refuses, unless it finds no memory
-abbrev pub unless_memory : Type 0 → OperatorError → Type 0
-unless_memory refuses (operator_errors.Refused m) = refuses
+-- an operator that makes no value refuses with a message, unless it finds no memory
+abbrev pub unless_memory : (List ℕ → Type 0) → OperatorError → Type 0
+unless_memory refuses (operator_errors.Refused m) = refuses m.now
 unless_memory refuses operator_errors.Memory = Unit {0}
 
 -- and so an expression doesn't go on
@@ -123,18 +144,48 @@ abbrev pub fault_of : OperatorError → Fault
 fault_of (operator_errors.Refused m) = faults.Refused m
 fault_of operator_errors.Memory = faults.Memory
 
-module _ {O V : Type 0} (refuses_operand : O → V → Type 0) (refuses_operands : O → V → V → Type 0) where
-  -- an operator refuses its operands
-  pub data OperatorRefuses : Type 0 where
-    refuses_one_operand : (o : O) (a : V) → refuses_operand o a → OperatorRefuses
-    refuses_two_operands : (o : O) (a b : V) → refuses_operands o a b → OperatorRefuses
+-- why an expression doesn't go on: what follows doesn't fit, or an operator refuses, with a message; or memory is wanted
+abbrev pub blames : (List ℕ → Type 0) → (List ℕ → Type 0) → Fault → Type 0
+blames misfits refuses faults.Memory = Unit {0}
+blames misfits refuses (faults.Misfit m) = misfits m.now
+blames misfits refuses (faults.Refused m) = refuses m.now
 
-  -- why an expression doesn't go on: it doesn't fit, or an operator refuses, or memory is wanted
-  abbrev pub blames : Type 0 → Fault → Type 0
-  blames misfit faults.Memory = Unit {0}
-  blames misfit (faults.Misfit m) = misfit
-  blames misfit (faults.Refused m) = OperatorRefuses
-
-  abbrev pub operator_refuses : O → Option V → V → Type 0
+module _ {O V : Type 0} (refuses_operand : O → V → List ℕ → Type 0) (refuses_operands : O → V → V → List ℕ → Type 0) where
+  abbrev pub operator_refuses : O → Option V → V → List ℕ → Type 0
   operator_refuses o None b = refuses_operand o b
   operator_refuses o (Some a) b = refuses_operands o a b
+
+  module _ (changes : O → V → V → Type 0) (joins : O → V → V → V → Type 0) (levels : List Fixity) (is_read : List (Thing O V) → Type 0) where
+    -- an operator that waits refuses what was read for it, which is complete
+    pub record WaitingRefuses (is_complete : ℕ → Type 0) (message : List ℕ) : Type 0 where
+      pub waits : Pending O V
+      pub others : List (Pending O V)
+      pub held : Held V
+      pub holds : (ts : List (Thing O V)) → is_read ts → HoldsOperand levels changes joins (waits ∷ others) held ts
+      pub complete : is_complete waits.asks
+      pub refuses : operator_refuses waits.operator waits.left held.value message
+
+    -- a postfix operator refuses what stands before it
+    pub record PostfixRefuses (level : ℕ) (o : O) (message : List ℕ) : Type 0 where
+      pub others : List (Pending O V)
+      pub held : Held V
+      pub holds : (ts : List (Thing O V)) → is_read ts → HoldsOperand levels changes joins others held ts
+      pub fits : asked_level others ≤ level
+      pub is_postfix : slice_get levels level ≡ Some fixities.Postfix
+      pub stands : level ≤ held.level
+      pub refuses : refuses_operand o held.value message
+
+    -- an operator refuses where such a thing follows: one that waits and asks for a higher level, or this one
+    abbrev pub refused_before : Thing O V → List ℕ → Type 0
+    refused_before (Operand v) m = ⊥
+    refused_before (Prefix l o) m = ⊥
+    refused_before (Postfix l o) m = WaitingRefuses (λ a. l < a) m ⊎ PostfixRefuses l o m
+    refused_before (Infix l o) m = WaitingRefuses (λ a. l < a) m
+
+  module _ {N : ℕ} (changes : O → V → V → Type 0) (joins : O → V → V → V → Type 0) (from : Operands O V N) where
+    abbrev pub refuses_before : Thing O V → List ℕ → Type 0
+    refuses_before = refused_before changes joins from.levels (StandsIn changes joins from)
+
+    -- or where nothing follows
+    abbrev pub refuses_at_end : List ℕ → Type 0
+    refuses_at_end = WaitingRefuses changes joins from.levels (StandsIn changes joins from) (λ _. Unit {0})

@@ -1,9 +1,9 @@
 -- the items of an accepted expression spell one of the lowest level, of its value
 use Rattle.std.specs.Prelude.{◌≡◌, ℕ, Bool, true, false, nat_lt, Option, Some, None, List, [], ◌∷◌, ◌++◌, length, reverse, vec_items, refl}
-use Rattle.std.proofs.Common.{subst, sym, ◌∙◌, ap, append_assoc}
+use Rattle.std.proofs.Common.{subst, sym, ◌∙◌, ap, append_assoc, append-nil}
 use Rattle.combine_base.specs.Stream.View.{View, advanced}
 use Rattle.combine_base.specs.Parser.Outcome.{Accepted}
-use Rattle.combine_base.specs.Parser.Meaning.{Meaning}
+use Rattle.combine_base.specs.Parser.Meaning.{Meaning, Reading}
 use Rattle.combine_nested.specs.declared.nested.Next.{Next}
 use Rattle.combine_nested.specs.declared.nested.Next.TheVariants as nexts
 use Rattle.combine_nested.specs.NestedSteps.{FramesChange, Opened, Closed, nested_whole, opens_frame as opens_within, settles_frames}
@@ -13,7 +13,7 @@ use Rattle.combine_expression.specs.declared.expression.Item.TheVariants as item
 use Rattle.combine_expression.specs.declared.expression.operands.Held.{Held}
 use Rattle.combine_expression.specs.declared.expression.operands.Pending.{Pending}
 use Rattle.combine_expression.specs.declared.expression.types.Part.{Part}
-use Rattle.combine_expression.specs.AcceptedSteps.{AcceptedSteps, last_step, more_steps, steps_so}
+use Rattle.combine_expression.specs.AcceptedSteps.{ReadsItems, Steps, no_step, one_more, steps_so}
 use Rattle.combine_expression.specs.Levels.{IsExpression, Thing, Operand, Prefix, Postfix, Infix}
 use Rattle.combine_expression.specs.ExpressionParts.{BeginsPart, part_joins, part_takes}
 use Rattle.combine_expression.specs.Shapes.{Shape, start}
@@ -75,7 +75,7 @@ module _ {O V : Type 0} (levels : List Fixity) (changes : O → V → V → Type
     pub begins_so : (p : Part O V N) (m : Bool) → BeginsPart levels m p → ReadOf p []
     begins_so p m b = record { things = []; spelled = no_item; stands = begun p m b; has_levels = b.has_levels }
 
-module _ {O V : Type 0} {N : ℕ} (levels : List Fixity) (changes : O → V → V → Type 0) (joins : O → V → V → V → Type 0) (refuses_operand : O → V → Type 0) (refuses_operands : O → V → V → Type 0) (depth : ℕ) where
+module _ {O V : Type 0} {N : ℕ} (levels : List Fixity) (changes : O → V → V → Type 0) (joins : O → V → V → V → Type 0) (refuses_operand : O → V → List ℕ → Type 0) (refuses_operands : O → V → V → List ℕ → Type 0) (depth : ℕ) where
   abbrev reads : Part O V N → List (Part O V N) → List (Item O V) → Type 0
   reads = read_of levels changes joins
 
@@ -123,7 +123,7 @@ module _ {O V : Type 0} {N : ℕ} (levels : List Fixity) (changes : O → V → 
   worth p (items.Postfix l o) v t = absurd t
   worth p (items.Infix l o) v t = absurd t
   worth p items.Open v t = absurd t
-  worth p items.Close v t = (refl, λ is r. subst (λ k. IsExpression k changes joins 0 r.things v) r.has_levels (t r.things r.stands))
+  worth p items.Close v t = (refl, λ is r. subst (λ k. IsExpression k changes joins 0 r.things v) r.has_levels (t.is_expression r.things r.stands))
 
   module _ (p o : Part O V N) (ps : List (Part O V N)) (v : V) (worthy : (is : List (Item O V)) (r : ReadOf levels changes joins p is) → IsExpression levels changes joins 0 r.things v) where
     -- the value of a part in brackets is an operand of the part round it
@@ -181,24 +181,26 @@ module _ {O V : Type 0} {N : ℕ} (levels : List Fixity) (changes : O → V → 
   last_so p ps before i (nexts.Refuse m) w t e r = absurd (cc)
 
   module _ {P T R E M U : Type 0} (step : P → T → P) (roots : Part O V N → Type 0) (answers : Part O V N → M → Type 0) (some : M → Type 0) (means : M → Meaning P T R E (Item O V) U) where
-    abbrev run_of : Part O V N → List (Part O V N) → View P T → List (Item O V) → V → Type 0
-    run_of = AcceptedSteps step depth roots answers takes_item joins_value some means
+    -- what is read by the steps is read of the parts that are then open
+    pub steps_read : (p : Part O V N) (ps : List (Part O V N)) (v : View P T) (is : List (Item O V)) (n : ℕ) (q : Part O V N) (qs : List (Part O V N)) (u : View P T) → Steps step depth roots answers takes_item joins_value some means p ps v is n q qs u → (before : List (Item O V)) → reads p ps before → reads q qs (before ++ is)
+    steps_read _ _ _ _ _ _ _ _ (no_step p ps v) before r = subst (reads p ps) (sym (append-nil before)) r
+    steps_read _ _ _ _ _ _ _ _ (one_more p ps v i n c x q qs is m o os u w t e a) before r = subst (reads o os) (append_assoc before (i ∷ []) is) (steps_read q qs (advanced step n v) is m o os u a (before ++ i ∷ []) (next_so p ps before i x q qs t e r))
 
-    spells_so : (p : Part O V N) (ps : List (Part O V N)) (v : View P T) (is : List (Item O V)) (w : V) → run_of p ps v is w → (before : List (Item O V)) → reads p ps before → Spells levels changes joins (before ++ is) w
-    spells_so _ _ _ _ _ (last_step p ps v i n c x w m t e) before r = last_so p ps before i x w t e r
-    spells_so _ _ _ _ _ (more_steps p ps v i n c x q qs is w m t e a) before r =
-        let k = spells_so q qs (advanced step n v) is w a (before ++ i ∷ []) (next_so p ps before i x q qs t e r) in
-        subst (λ y. Spells levels changes joins y w) (append_assoc before (i ∷ []) is) k
-
-    -- a run from an outermost part: what its steps read spells an expression of its value
-    pub record ReadsExpression (v : View P T) (w : V) : Type 0 where
+  module _ {P T R E M U : Type 0} (step : P → T → P) (answers : Part O V N → M → Type 0) (some : M → Type 0) (means : M → Meaning P T R E (Item O V) U) where
+    -- the steps of a run that takes so many tokens, and the items that they read, which spell an expression of its value
+    pub record ReadsExpression (v : View P T) (w : V) (taken : ℕ) : Type 0 where
       pub part : Part O V N
-      pub root : roots part
-      pub items : List (Item O V)
-      pub run : run_of part [] v items w
-      pub spells : Spells levels changes joins items w
+      pub begins : BeginsPart levels false part
+      pub run : ReadsItems step depth (BeginsPart levels false) answers takes_item joins_value some means part [] v w taken
+      pub spells : Spells levels changes joins (run.items ++ run.last ∷ []) w
 
-    pub accepted_is_expression : ((p : Part O V N) → roots p → BeginsPart levels false p) → (v : View P T) (w : V) (n : ℕ) (c : Bool) → nested_whole step depth roots answers takes_item joins_value some means v (Accepted w n c) → ReadsExpression v w
-    accepted_is_expression h v w n c m =
-        let k = steps_so step depth roots answers takes_item joins_value some means m.2.0 m.0 [] v w n c m.2.1 in
-        record { part = m.0; root = m.1; items = k.items; run = k.accepted; spells = spells_so m.0 [] v k.items w k.accepted [] (begins_so levels changes joins m.0 false (h m.0 m.1)) }
+    -- so is each run that is accepted
+    abbrev pub AcceptsExpressions : Reading P T V → Type 0
+    AcceptsExpressions whole = (v : View P T) (w : V) (n : ℕ) (c : Bool) → whole v (Accepted w n c) → ReadsExpression v w n
+
+    pub accepted_is_expression : (made : List Fixity) → made ≡ levels → AcceptsExpressions (nested_whole step depth (BeginsPart made false) answers takes_item joins_value some means)
+    accepted_is_expression made e v w n c m =
+        let a : nested_whole step depth (BeginsPart levels false) answers takes_item joins_value some means v (Accepted w n c) = subst (λ k. nested_whole step depth (BeginsPart k false) answers takes_item joins_value some means v (Accepted w n c)) e m in
+        let k = steps_so step depth (BeginsPart levels false) answers takes_item joins_value some means a.2.0 a.0 [] v w n c a.2.1 in
+        let r : reads k.top k.others k.items = steps_read step (BeginsPart levels false) answers some means a.0 [] v k.items k.count k.top k.others k.place k.before [] (begins_so levels changes joins a.0 false a.1) in
+        record { part = a.0; begins = a.1; run = k; spells = last_so k.top k.others k.items k.last k.next w k.is_taken k.closes r }

@@ -6,6 +6,7 @@ ghost use Rattle.combine_nested.specs.Asks.{if_else_of};
 ghost use Rattle.combine_nested.specs.NestedSteps.{step_asker, depth_part, root_part};
 ghost use Rattle.combine_expression.specs.ExpressionParts.{MakesOutermost};
 
+pub mod laws;
 pub mod operands;
 pub mod types;
 
@@ -70,7 +71,7 @@ impl<T: Drop> From<AllocFailed<T>> for OperatorError {
 
 /// An operator of a caller's own.
 pub trait Operator: Drop {
-    ghost use Rattle.std.specs.Prelude.{MatchResult};
+    ghost use Rattle.std.specs.Prelude.{List, MatchResult, ℕ};
     ghost use Rattle.combine_expression.specs.OpenExpressions.{unless_memory};
 
     /// What an expression is worth.
@@ -82,11 +83,11 @@ pub trait Operator: Drop {
     /// What may come of the values of its left and its right operand. An operator that doesn't define it promises nothing.
     ghost joins: { Self → Self.Value → Self.Value → Self.Value → Type 0 } = { λ _ _ _ _. Unit {0} };
 
-    /// What operand it may refuse. An operator that doesn't define it may refuse any.
-    ghost refuses_operand: { Self → Self.Value → Type 0 } = { λ _ _. Unit {0} };
+    /// What operand it may refuse, with this message. An operator that doesn't define it may refuse any.
+    ghost refuses_operand: { Self → Self.Value → List ℕ → Type 0 } = { λ _ _ _. Unit {0} };
 
-    /// What operands it may refuse. An operator that doesn't define it may refuse any.
-    ghost refuses_operands: { Self → Self.Value → Self.Value → Type 0 } = { λ _ _ _. Unit {0} };
+    /// What operands it may refuse, with this message. An operator that doesn't define it may refuse any.
+    ghost refuses_operands: { Self → Self.Value → Self.Value → List ℕ → Type 0 } = { λ _ _ _ _. Unit {0} };
 
     /// Returns the value that a prefix or a postfix operator makes of its operand's.
     ///
@@ -141,8 +142,8 @@ pub enum Item<O, V> {
 /// # Errors
 ///
 /// - What a step's parser refuses is refused, committed if a step before it was.
-/// - What an operator refuses is refused with its message. An operator is given its operands as soon as they are read, so what it refuses is refused before what follows is looked at.
-/// - What begins no expression is refused: an operator with the message `operator cannot stand here`, an operand after an operand with `operand cannot stand here`, and an end where an operand is awaited with `operand expected`.
+/// - What an operator refuses is refused with its message. An operator is given its operands as soon as the item after them shows that they are complete, a postfix operator as soon as it is read.
+/// - What no expression begins with is refused: an operator with the message `operator cannot stand here`, an operand after an operand with `operand cannot stand here`, and an end where an operand is awaited with `operand expected`. A bracket that opens after an operand is refused, as an operand, where it closes.
 /// - A bracket too many is refused committed, with the message `nesting too deep`.
 /// - An operator that finds no memory is the fault `Memory`.
 ///

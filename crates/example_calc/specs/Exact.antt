@@ -19,7 +19,3 @@ abbrev pub IsArithmeticFault : Operator → ℤ → ℤ → List ℕ → Type 0
 IsArithmeticFault operator left right message =
     ((operator ≡ Divide) × (right ≡ pos 0) × (message ≡ codes "division by zero"))
     ⊎ (¬ (FitsSigned w64 (exact operator left right)) × (message ≡ codes "overflow"))
-
--- whatever the message
-abbrev pub IsRefused : Operator → ℤ → ℤ → Type 0
-IsRefused operator left right = (message : List ℕ) × IsArithmeticFault operator left right message

@@ -4,7 +4,7 @@
 #![tactic(auto)]
 
 ghost use Rattle.std.specs.Prelude.{◌≡◌, ℤ, pos, MatchResult};
-ghost use Rattle.example_calc.specs.Exact.{IsExact, IsArithmeticFault, IsRefused};
+ghost use Rattle.example_calc.specs.Exact.{IsExact, IsArithmeticFault};
 
 use combine::easy::TextStream;
 use combine::error::{DetailedError, StreamError};
@@ -54,9 +54,9 @@ impl expression::Operator for Operator {
 
     ghost joins = { IsExact };
 
-    ghost refuses_operand = { λ operator. IsRefused operator (pos 0) };
+    ghost refuses_operand = { λ operator. IsArithmeticFault operator (pos 0) };
 
-    ghost refuses_operands = { IsRefused };
+    ghost refuses_operands = { IsArithmeticFault };
 
     /// Returns what the operator makes of 0 and the number after it.
     fn change(self, operand: i64) -> Result<i64, OperatorError> {

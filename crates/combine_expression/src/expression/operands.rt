@@ -1,8 +1,8 @@
 //! An expression that isn't over: the operators that wait for operands, and the operand that they wait for.
-ghost use Rattle.std.specs.Prelude.{◌≡◌, [], ◌∷◌, ◌++◌, MatchResult, None, length, reverse, slice_get, vec_items};
+ghost use Rattle.std.specs.Prelude.{◌≡◌, ◌<◌, [], ◌∷◌, ◌++◌, MatchResult, None, length, reverse, slice_get, vec_items};
 ghost use Rattle.combine_expression.specs.Levels.{IsExpression, Infix, Operand, Postfix, Prefix};
 ghost use Rattle.combine_expression.specs.Shapes.{fits_behind, fits_in_front, sides_of};
-ghost use Rattle.combine_expression.specs.OpenExpressions.{EndsEarly, AddsThing, HoldsOperand, Misfits, Reduced, ReducedAbove, StandsIn, asked_level, blames, fault_of, makes_of, operator_refuses, unless_memory};
+ghost use Rattle.combine_expression.specs.OpenExpressions.{AddsThing, Completes, EndsEarly, HoldsOperand, Misfits, Reduced, ReducedAbove, WaitingRefuses, asked_level, blames, fault_of, makes_of, operator_refuses, refuses_at_end, refuses_before, unless_memory};
 
 use super::{Fixity, Operator, OperatorError};
 use std::alloc::{AllocError, Global};
@@ -175,7 +175,7 @@ fn reduce<O: Operator>(
     waits: Pending<O, O::Value>,
     right: O::Value,
 ) -> Result<Held<O::Value>, Fault>
-    ensures { MatchResult result (Reduced O.changes O.joins waits right) (blames O.refuses_operand O.refuses_operands ⊥) }
+    ensures { MatchResult result (Reduced O.changes O.joins waits right) (blames (λ _. ⊥) (operator_refuses O.refuses_operand O.refuses_operands waits.operator waits.left right)) }
 {
     let Pending {
         operator,
@@ -195,7 +195,7 @@ fn reduce_above<O: Operator>(
     held: Held<O::Value>,
     level: usize,
 ) -> Result<Held<O::Value>, Fault>
-    ensures { MatchResult result (ReducedAbove O.changes O.joins (vec_items pending.old) (vec_items pending.new) held level) (blames O.refuses_operand O.refuses_operands ⊥) }
+    ensures { MatchResult result (ReducedAbove O.changes O.joins (vec_items pending.old) (vec_items pending.new) held level) (blames (λ _. ⊥) (λ m. (levels : _) → WaitingRefuses O.refuses_operand O.refuses_operands O.changes O.joins levels (HoldsOperand levels O.changes O.joins (reverse (vec_items pending.old)) held) (λ a. level < a) m)) }
 {
     let mut held = held;
     'innermost: while asked_by(pending) > level {
@@ -212,7 +212,7 @@ fn reduce_all<O: Operator>(
     pending: Vec<Pending<O, O::Value>>,
     held: Held<O::Value>,
 ) -> Result<O::Value, Fault>
-    ensures { MatchResult result (λ v. (levels : _) (ts : _) → HoldsOperand levels O.changes O.joins (reverse (vec_items pending)) held ts → IsExpression levels O.changes O.joins 0 ts v) (blames O.refuses_operand O.refuses_operands ⊥) }
+    ensures { MatchResult result (λ v. (levels : _) (ts : _) → HoldsOperand levels O.changes O.joins (reverse (vec_items pending)) held ts → IsExpression levels O.changes O.joins 0 ts v) (blames (λ _. ⊥) (λ m. (levels : _) → WaitingRefuses O.refuses_operand O.refuses_operands O.changes O.joins levels (HoldsOperand levels O.changes O.joins (reverse (vec_items pending)) held) (λ _. Unit {0}) m)) }
 {
     let mut pending = pending;
     let mut held = held;
@@ -240,7 +240,7 @@ impl<O, V, const N: usize> Operands<O, V, N> {
 impl<O: Operator, const N: usize> Operands<O, O::Value, N> {
     /// Reads the operand that is awaited.
     pub(super) fn operand(self, value: O::Value) -> Result<Self, Fault>
-        ensures { MatchResult result (λ r. AddsThing O.changes O.joins self r (Operand value)) (blames O.refuses_operand O.refuses_operands (Misfits O.changes O.joins self (Operand value))) }
+        ensures { MatchResult result (λ r. AddsThing O.changes O.joins self r (Operand value)) (blames (Misfits O.changes O.joins self (Operand value)) (refuses_before O.refuses_operand O.refuses_operands O.changes O.joins self (Operand value))) }
     {
         let Operands {
             levels,
@@ -260,7 +260,7 @@ impl<O: Operator, const N: usize> Operands<O, O::Value, N> {
 
     /// Reads a prefix operator in front of the operand that is awaited.
     pub(super) fn prefix(self, level: usize, operator: O) -> Result<Self, Fault>
-        ensures { MatchResult result (λ r. AddsThing O.changes O.joins self r (Prefix level operator)) (blames O.refuses_operand O.refuses_operands (Misfits O.changes O.joins self (Prefix level operator))) }
+        ensures { MatchResult result (λ r. AddsThing O.changes O.joins self r (Prefix level operator)) (blames (Misfits O.changes O.joins self (Prefix level operator)) (refuses_before O.refuses_operand O.refuses_operands O.changes O.joins self (Prefix level operator))) }
     {
         let Operands {
             levels,
@@ -291,7 +291,7 @@ impl<O: Operator, const N: usize> Operands<O, O::Value, N> {
 
     /// Reads an infix operator after an operand.
     pub(super) fn infix(self, level: usize, operator: O) -> Result<Self, Fault>
-        ensures { MatchResult result (λ r. AddsThing O.changes O.joins self r (Infix level operator)) (blames O.refuses_operand O.refuses_operands (Misfits O.changes O.joins self (Infix level operator))) }
+        ensures { MatchResult result (λ r. AddsThing O.changes O.joins self r (Infix level operator)) (blames (Misfits O.changes O.joins self (Infix level operator)) (refuses_before O.refuses_operand O.refuses_operands O.changes O.joins self (Infix level operator))) }
     {
         let Operands {
             levels,
@@ -326,7 +326,7 @@ impl<O: Operator, const N: usize> Operands<O, O::Value, N> {
 
     /// Reads a postfix operator after an operand.
     pub(super) fn postfix(self, level: usize, operator: O) -> Result<Self, Fault>
-        ensures { MatchResult result (λ r. AddsThing O.changes O.joins self r (Postfix level operator)) (blames O.refuses_operand O.refuses_operands (Misfits O.changes O.joins self (Postfix level operator))) }
+        ensures { MatchResult result (λ r. AddsThing O.changes O.joins self r (Postfix level operator)) (blames (Misfits O.changes O.joins self (Postfix level operator)) (refuses_before O.refuses_operand O.refuses_operands O.changes O.joins self (Postfix level operator))) }
     {
         let Operands {
             levels,
@@ -356,7 +356,7 @@ impl<O: Operator, const N: usize> Operands<O, O::Value, N> {
 
     /// Returns the value, where nothing more follows.
     pub(super) fn close(self) -> Result<O::Value, Fault>
-        ensures { MatchResult result (λ v. (ts : _) → StandsIn O.changes O.joins self ts → IsExpression self.levels O.changes O.joins 0 ts v) (blames O.refuses_operand O.refuses_operands (EndsEarly O.changes O.joins self)) }
+        ensures { MatchResult result (Completes O.changes O.joins self) (blames (EndsEarly O.changes O.joins self) (refuses_at_end O.refuses_operand O.refuses_operands O.changes O.joins self)) }
     {
         let Operands {
             levels: _,

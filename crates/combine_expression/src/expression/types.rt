@@ -70,6 +70,8 @@ impl<O: Drop, V: Drop, const N: usize> Part<O, V, N> {
 }
 
 impl<V: Drop, O: Operator<Value = V>, const N: usize> Frame for Part<O, V, N> {
+    ghost use Rattle.combine_expression.specs.ExpressionParts.{ItemsAlike, PartsAlike};
+
     type Item = Item<O, V>;
 
     type Value = V;
@@ -77,6 +79,12 @@ impl<V: Drop, O: Operator<Value = V>, const N: usize> Frame for Part<O, V, N> {
     ghost takes = { part_takes O.changes O.joins O.refuses_operand O.refuses_operands };
 
     ghost joins = { part_joins O.changes O.joins O.refuses_operand O.refuses_operands };
+
+    ghost alike = { PartsAlike };
+
+    ghost alike_items = { ItemsAlike };
+
+    ghost alike_values = { λ _ _. Unit {0} };
 
     fn take(self, item: Item<O, V>) -> Result<Next<Self, V>, AllocError> {
         let Part {

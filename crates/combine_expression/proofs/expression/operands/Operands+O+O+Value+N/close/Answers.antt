@@ -5,4 +5,4 @@ pub returns-in_default : goal.returns-in_default
 returns-in_default g c = ends_early g.O.Operator.changes g.O.Operator.joins c.args.self c.in_default.is
 
 pub returns : goal.returns
-returns g c = closes_so g.O.Operator.changes g.O.Operator.joins g.O.Operator.refuses_operand g.O.Operator.refuses_operands c.args.self c.in-Some.held c.reduce_all.result c.in-Some.is c.reduce_all.ensures
+returns g c = closes_so g.O.Operator.refuses_operand g.O.Operator.refuses_operands g.O.Operator.changes g.O.Operator.joins c.args.self c.in-Some.held c.in-Some.is c.reduce_all.result c.reduce_all.ensures
