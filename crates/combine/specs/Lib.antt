@@ -1,5 +1,8 @@
 -- The words of the contracts, under this crate's name.
 pub use Rattle.combine_base.specs.Parser.Answer
+pub use Rattle.combine_base.specs.Parser.AnswersCalls
+pub use Rattle.combine_base.specs.Parser.GivenValues
+pub use Rattle.combine_base.specs.Parser.KeptParsers
 pub use Rattle.combine_base.specs.Parser.ParserCalls
 pub use Rattle.combine_base.specs.Parser.Drivers
 pub use Rattle.combine_base.specs.Error.Errors
@@ -7,6 +10,7 @@ pub use Rattle.combine_base.specs.Parser.Faults
 pub use Rattle.combine_base.specs.Stream.Fed
 pub use Rattle.combine_base.specs.Error.Items
 pub use Rattle.combine_base.specs.Sequence.PartErrors
+pub use Rattle.combine_base.specs.Sequence.Parts
 pub use Rattle.combine_base.specs.Sequence.SequenceCalls
 pub use Rattle.combine_base.specs.Sequence.JoinedOutcome
 pub use Rattle.combine_base.specs.Parser.DriverAnswers
@@ -35,6 +39,8 @@ pub use Rattle.combine_base.specs.Stream.Texts
 pub use Rattle.combine_combinator.specs.Attempt
 pub use Rattle.combine_combinator.specs.CombinatorLaws
 pub use Rattle.combine_combinator.specs.CombinatorParsers
+pub use Rattle.combine_combinator.specs.ResetAnswers
+pub use Rattle.combine_combinator.specs.Tables
 pub use Rattle.combine_combinator.specs.ValueParts
 pub use Rattle.combine_repeat.specs.ManyParsers
 pub use Rattle.combine_repeat.specs.Repetition
@@ -50,6 +56,7 @@ pub use Rattle.combine_repeat_sep.specs.SeparatedParsers
 pub use Rattle.combine_sequence.specs.Then
 pub use Rattle.combine_sequence.specs.Values
 pub use Rattle.combine_stream.specs.Position.CountedPositions
+pub use Rattle.combine_stream.specs.FailingCalls
 pub use Rattle.combine_stream.specs.Position.IndexedSlices
 pub use Rattle.combine_stream.specs.Position.Lines
 pub use Rattle.combine_stream.specs.MaybePartial
@@ -78,6 +85,7 @@ pub use Rattle.combine_token.specs.Token.Lists.TokenLists
 pub use Rattle.combine_token.specs.Token.TokenParsers
 pub use Rattle.combine_repeat_turns.specs.Turns.Bounds
 pub use Rattle.combine_choice.specs.ListChoice
+pub use Rattle.combine_choice.specs.ChoiceParsers
 pub use Rattle.combine_choice.specs.MergedErrors
 pub use Rattle.combine_repeat_sep.specs.PartCalls
 pub use Rattle.combine_repeat_turns.specs.Repeat.Repeated
@@ -101,9 +109,18 @@ pub use Rattle.combine_range.specs.PeekedRefusals
 pub use Rattle.combine_range.specs.Range.RangeParsers
 pub use Rattle.combine_range.specs.Range.RecognizedRange
 pub use Rattle.combine_range.specs.RangeTests
+pub use Rattle.combine_range.specs.Range.UntilRange
+pub use Rattle.combine_range.specs.RangeReasons
+pub use Rattle.combine_range_length_prefix.specs.LengthParsers
+pub use Rattle.combine_range_length_prefix.specs.Prefixes
+pub use Rattle.combine_range_search.specs.Search.SearchParsers
+pub use Rattle.combine_range_search.specs.Search.Searches
+pub use Rattle.combine_range_search.specs.Search.StableFunctions
+pub use Rattle.combine_range_search.specs.Search.TakeFn
 pub use Rattle.combine_byte_num.specs.Numbers
 pub use Rattle.combine_byte_num.specs.WholeNumbers
 pub use Rattle.combine_combinator_function.specs.Changes
+pub use Rattle.combine_combinator_function.specs.ChangeParsers
 pub use Rattle.combine_combinator_function.specs.Functions
 pub use Rattle.combine_combinator_function.specs.Unexpected
 pub use Rattle.combine_error.specs.Easy
@@ -116,12 +133,16 @@ pub use Rattle.combine_repeat_until.specs.UntilParsers
 pub use Rattle.combine_repeat_until.specs.UntilTurn
 pub use Rattle.combine_session.specs.Cuts
 pub use Rattle.combine_repeat_iterate.specs.ItemErrors
+pub use Rattle.combine_repeat_iterate.specs.ItemParsers
+pub use Rattle.combine_repeat_iterate.specs.IteratorTurn
 pub use Rattle.combine_repeat_iterate.specs.IteratorValues
+pub use Rattle.combine_repeat_iterate.specs.ListedItems
 pub use Rattle.combine_combinator_lazy.specs.MadeCalls
 pub use Rattle.combine_combinator_lazy.specs.MadeParsers
 pub use Rattle.combine_combinator_recognize.specs.RecognizedTokens
 pub use Rattle.combine_combinator_spanned.specs.SpannedErrors
 pub use Rattle.combine_decode.specs.Decoders
+pub use Rattle.combine_decode.specs.DecodedPieces
 pub use Rattle.combine_decode.specs.Frames
 pub use Rattle.combine_decode.specs.MessageLaws
 pub use Rattle.combine_decode.specs.Messages

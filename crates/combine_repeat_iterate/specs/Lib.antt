@@ -7,6 +7,7 @@ pub use Rattle.combine_base.specs.Parser.Outcome
 pub use Rattle.combine_base.specs.Stream.Calls
 pub use Rattle.combine_base.specs.Stream.View
 pub use Rattle.combine_repeat_turns.specs.Turns.Bounds
+pub use Rattle.combine_repeat_turns.specs.Turns.Turn
 pub use Rattle.combine_repeat_turns.specs.Repeat.Repeated
 pub use Rattle.combine_repeat_turns.specs.Repeat.Counts
 pub use Rattle.combine_repeat_turns.specs.Turns.Blocks

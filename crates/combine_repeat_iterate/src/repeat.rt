@@ -23,7 +23,7 @@ use types::Iterate;
 ///
 /// `f: Fn(&J::Item, &mut Input) -> N, J: Clone + IntoIterator, N: Parser<Input>`, or a `MutFunction`.
 ///
-/// `f` has to leave the stream in place, and every parser that it may return has to be lawful. It is called once for each item, where its turn comes. An iterator of a clone of the list gives the items. The result is accepted without commitment if there are no items, or if no item's parser committed.
+/// `f` has to leave the stream in place, and every parser that it may return has to be lawful. It is called for each item where its turn comes. An iterator of a clone of the list gives the items. The result is accepted without commitment if there are no items, or if no item's parser committed.
 ///
 /// # Errors
 ///
@@ -159,7 +159,7 @@ impl<'a, Input: Stream, P: Parser<Input>, M: ParseMode> Iter<'a, Input, P, M> {
     ///
     /// # Errors
     ///
-    /// The error at which the turns ended, committed.
+    /// The error of the turn at which they ended, committed: its parser's, or `repetition takes nothing` at the position where it began.
     pub fn into_result<O: Drop>(self, value: O) -> StdParseResult<O, Input>
     where
         P: Drop,
