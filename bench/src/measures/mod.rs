@@ -22,6 +22,7 @@ measures! {
     letters_ascii
     letters_greek
     digits_collect
+    attempt_digits
     lines_and_columns
     then_of_3
     keywords_tuple

@@ -6,7 +6,6 @@ use Rattle.combine_base.specs.Parser.Outcome.{Outcome, Accepted, Refused, Undeci
 use Rattle.combine_base.specs.Parser.Meaning.{Meaning, begun}
 use Rattle.combine_base.specs.Parser.Answer.{CallRecord, World, Answers, Accepts, Refuses, Asks, Leaves, fails, asks_or_refuses, peeks, loses}
 use Rattle.combine_base.specs.Stream.Calls.{Passes, ResetTo}
-use Rattle.combine_base.specs.Parser.Drivers.{Broke}
 use Rattle.combine_base.specs.Distances.{PassesOver, MeasuresDistance, stops_distance, losing}
 use Rattle.combine_base.specs.Sequence.Parts.{accepted_as}
 use Rattle.combine_base.proofs.Errors.CallErrors.{around, left_settled, needs, need_of_more, peeked_refusal, same_mark}
@@ -165,49 +164,32 @@ module _ {P T R V S E : Type 0} (w : World P T S E) (m : Meaning P T R E V S) wh
         by_kind kinds.Reset j y = (let b = z.resets in let c = y.0 in rw a (omega arith), left y.1)
         by_kind kinds.Lost j y = subst (loses (around w (IsFreshTry w.fresh)) (attempted w.step m) u) f (losing_by r.first refl (sym f) y)
 
-    -- a failed read or reset of its own, counted after the part's call
-    broken : (k : Kind) (result : ParseResult V E) → (e : E) × (result ≡ CommitErr e) × (w.kind e ≡ k) → Broke k r.after u.after → r.before.reads ≤ r.after.reads → r.before.resets ≤ r.after.resets → Leaves (around w (IsFreshTry w.fresh)) u → Answers (around w (IsFreshTry w.fresh)) (attempted w.step m) u result
-    broken k result i h x y l = rw i.1 (record { is = rw i.2 (by_kind k h) })
-      where
-        by_kind : (k : Kind) → Broke k r.after u.after → fails (around w (IsFreshTry w.fresh)) (attempted w.step m) u k
-        by_kind kinds.Read h = (let b = z.reads in omega arith, l)
-        by_kind kinds.Reset h = (let b = z.resets in omega arith, l)
-        by_kind kinds.Refused h = absurd h
-        by_kind kinds.End h = absurd h
-        by_kind kinds.Memory h = absurd h
-        by_kind kinds.Lost h = absurd h
-
     -- the stream could not be put back
-    try_unreset : (k : Kind) (result : ParseResult V E) → (e : E) × (result ≡ CommitErr e) × (w.kind e ≡ k) → (k ≡ kinds.Reset) × Moves w.step r.new u.new × (r.after.resets < u.after.resets) → r.before.reads ≤ r.after.reads → r.before.resets ≤ r.after.resets → u.left.distance ≡ held → w.fresh u.left.part → Leaves w r → Answers (around w (IsFreshTry w.fresh)) (attempted w.step m) u result
-    try_unreset k result i h x y n l p =
+    try_unreset : (k : Kind) (result : ParseResult V E) → (e : E) × (result ≡ CommitErr e) × (w.kind e ≡ k) → (k ≡ kinds.Reset) × Moves w.step r.new u.new × (r.after.resets < u.after.resets) → r.before.resets ≤ r.after.resets → u.left.distance ≡ held → w.fresh u.left.part → (j : ℕ) → Takes w.step j r.old r.new → Answers (around w (IsFreshTry w.fresh)) (attempted w.step m) u result
+    try_unreset k result i h y n l j p =
         let s = h.1 in
-        let t = takes_more w.step d p.count u.old r.old r.new z.taken p.taken in
-        broken k result i (rw h.0 h.2) x y (record { count = d + p.count + s.count; taken = takes_more w.step (d + p.count) s.count u.old r.new u.new t s.taken; state = (n ∙ z.none, l) })
+        let t = takes_more w.step d j u.old r.old r.new z.taken p in
+        let a = z.resets in
+        let b = h.2 in
+        rw i.1 (record { is = rw (i.2, h.0) (omega arith, record { count = d + j + s.count; taken = takes_more w.step (d + j) s.count u.old r.new u.new t s.taken; state = (n ∙ z.none, l) }) })
 
     -- a refusal that is put back, or could not be
-    try_put_back : (marked : View P T → Type 0) (t : Tracked E) (result : ParseResult V E) → (u.new ≡ u.old → (w.counts_failures → u.after ≡ r.after) → u.left ≡ record { distance = held; part = r.left } → Answers (around w (IsFreshTry w.fresh)) (attempted w.step m) u (PeekErr t)) → marked u.old → PutsBack w.counts_failures w.step marked r.new u.new r.after u.after w.kind w.fresh r.left u.left.part t result → r.before.reads ≤ r.after.reads → r.before.resets ≤ r.after.resets → u.left.distance ≡ held → Leaves w r → Answers (around w (IsFreshTry w.fresh)) (attempted w.step m) u result
-    try_put_back marked t (CommitOk v) back i h x y n p = absurd h.is
-    try_put_back marked t (PeekOk v) back i h x y n p = absurd h.is
-    try_put_back marked t (PeekErr o) back i h x y n p =
+    try_put_back : (marked : View P T → Type 0) (t : Tracked E) (result : ParseResult V E) → (u.new ≡ u.old → (w.counts_failures → u.after ≡ r.after) → u.left ≡ record { distance = held; part = r.left } → Answers (around w (IsFreshTry w.fresh)) (attempted w.step m) u (PeekErr t)) → marked u.old → PutsBack w.counts_failures w.step marked r.new u.new r.after u.after w.kind w.fresh r.left u.left.part t result → r.before.resets ≤ r.after.resets → u.left.distance ≡ held → Leaves w r → Answers (around w (IsFreshTry w.fresh)) (attempted w.step m) u result
+    try_put_back marked t (CommitOk v) back i h y n p = absurd h.is
+    try_put_back marked t (PeekOk v) back i h y n p = absurd h.is
+    try_put_back marked t (PeekErr o) back i h y n p =
         let to = h.is.1.is in
         let e = h.is.2 in
         rw h.is.0 (back (to.0 u.old i) to.1 (ap (λ k. record { distance = k; part = u.left.part }) n ∙ ap (λ s. record { distance = held; part = s }) e))
-    try_put_back marked t (CommitErr e) back i h x y n p = try_unreset (w.kind e) (CommitErr e) (e, refl, refl) h.is.0.is x y n h.is.1 p
+    try_put_back marked t (CommitErr e) back i h y n p = try_unreset (w.kind e) (CommitErr e) (e, refl, refl) h.is.0.is y n h.is.1 p.count p.taken
 
     -- a peeked refusal of the part
-    pub try_peeks_back : (marked : View P T → Type 0) (t : Tracked E) (result : ParseResult V E) → Answers w m r (PeekErr t) → marked u.old → PutsBack w.counts_failures w.step marked r.new u.new r.after u.after w.kind w.fresh r.left u.left.part t result → r.before.reads ≤ r.after.reads → r.before.resets ≤ r.after.resets → u.left.distance ≡ held → Answers (around w (IsFreshTry w.fresh)) (attempted w.step m) u result
-    try_peeks_back marked t result p i h x y n = try_put_back marked t result (try_peeks t p) i h x y n (peeked_refusal w m r (w.kind t.error) p.is).leaves
+    pub try_peeks_back : (marked : View P T → Type 0) (t : Tracked E) (result : ParseResult V E) → Answers w m r (PeekErr t) → marked u.old → PutsBack w.counts_failures w.step marked r.new u.new r.after u.after w.kind w.fresh r.left u.left.part t result → r.before.resets ≤ r.after.resets → u.left.distance ≡ held → Answers (around w (IsFreshTry w.fresh)) (attempted w.step m) u result
+    try_peeks_back marked t result p i h y n = try_put_back marked t result (try_peeks t p) i h y n (peeked_refusal w m r (w.kind t.error) p.is).leaves
 
     -- a committed one
-    pub try_refuses_back : (marked : View P T → Type 0) (e : E) (t : Tracked E) (result : ParseResult V E) → t.error ≡ e → refusing (w.kind e) ≡ true → ((w.kind e ≡ kinds.End) × (r.new.is_open ≡ true) → ⊥) → Answers w m r (CommitErr e) → marked u.old → PutsBack w.counts_failures w.step marked r.new u.new r.after u.after w.kind w.fresh r.left u.left.part t result → r.before.reads ≤ r.after.reads → r.before.resets ≤ r.after.resets → u.left.distance ≡ held → Answers (around w (IsFreshTry w.fresh)) (attempted w.step m) u result
-    try_refuses_back marked e t result j f q p i h x y n = try_put_back marked t result (try_refuses e t j f q p) i h x y n (left_settled w m r e q p)
-
-    -- the tokens read could not be counted
-    try_unmeasured : (k : Kind) (result : ParseResult V E) → (e : E) × (result ≡ CommitErr e) × (w.kind e ≡ k) → (g : E) → (w.kind g ≡ kinds.End) × (r.new.is_open ≡ true) → Answers w m r (CommitErr g) → ((n : ℕ) → Takes w.step n u.old r.new → MeasuresDistance w.counts_failures w.step r.new u.new r.after u.after u.old n (Err k)) → r.before.reads ≤ r.after.reads → r.before.resets ≤ r.after.resets → u.left.distance ≡ held → w.fresh u.left.part → Answers (around w (IsFreshTry w.fresh)) (attempted w.step m) u result
-    try_unmeasured k result i g q p h x y n l =
-        let a = need_of_more w m r g q.0 (sym (same_mark w m r g p) ∙ q.1) p in
-        let b = (h (d + a.count) (takes_more w.step d a.count u.old r.old r.new z.taken a.taken)).is in
-        broken k result i b.0 x y (record { count = b.1.count; taken = b.1.taken; state = (n ∙ z.none, l) })
+    pub try_refuses_back : (marked : View P T → Type 0) (e : E) (t : Tracked E) (result : ParseResult V E) → t.error ≡ e → refusing (w.kind e) ≡ true → ((w.kind e ≡ kinds.End) × (r.new.is_open ≡ true) → ⊥) → Answers w m r (CommitErr e) → marked u.old → PutsBack w.counts_failures w.step marked r.new u.new r.after u.after w.kind w.fresh r.left u.left.part t result → r.before.resets ≤ r.after.resets → u.left.distance ≡ held → Answers (around w (IsFreshTry w.fresh)) (attempted w.step m) u result
+    try_refuses_back marked e t result j f q p i h y n = try_put_back marked t result (try_refuses e t j f q p) i h y n (left_settled w m r e q p)
 
     -- need of more: nothing is taken, and all that was read is passed over by the next call
     asks : (p : Asks w m r) → u.new ≡ u.old → u.left ≡ record { distance = d + p.count; part = r.left } → (w.counts_failures → u.after ≡ r.after) → Asks (around w (IsFreshTry w.fresh)) (attempted w.step m) u
@@ -259,12 +241,15 @@ module _ {P T R V S E : Type 0} (w : World P T S E) (m : Meaning P T R E V S) wh
             asks y h.1 (l ∙ ap (λ c. record { distance = c; part = r.left }) h.0) h.2
 
     -- need of more, whose distance is kept, or could not be measured
-    pub try_keeps_distance : (marked : View P T → Type 0) (e : E) (result : ParseResult V E) → (w.kind e ≡ kinds.End) × (r.new.is_open ≡ true) → Answers w m r (CommitErr e) → marked u.old → KeepsTokenDistance w.counts_failures w.step marked r.new u.new r.after u.after w.kind w.fresh (record { distance = held; part = r.left }) u.left e result → r.before.reads ≤ r.after.reads → r.before.resets ≤ r.after.resets → Answers (around w (IsFreshTry w.fresh)) (attempted w.step m) u result
-    try_keeps_distance marked e result q p i h x y = by_measured h.distance h.measures h.keeps
+    pub try_keeps_distance : (marked : View P T → Type 0) (e : E) (result : ParseResult V E) → (w.kind e ≡ kinds.End) × (r.new.is_open ≡ true) → Answers w m r (CommitErr e) → marked u.old → KeepsTokenDistance w.counts_failures w.step marked r.new u.new r.after u.after w.kind w.fresh (record { distance = held; part = r.left }) u.left e result → r.before.resets ≤ r.after.resets → Answers (around w (IsFreshTry w.fresh)) (attempted w.step m) u result
+    try_keeps_distance marked e result q p i h y = by_measured h.distance h.measures h.keeps
       where
         by_measured : (k : Result ℕ Kind) → ((n : ℕ) (v : View P T) → marked v → Takes w.step n v r.new → MeasuresDistance w.counts_failures w.step r.new u.new r.after u.after v n k) → keeps_token_distance w.counts_failures w.step marked r.new u.new r.after u.after w.kind w.fresh (record { distance = held; part = r.left }) u.left e result k → Answers (around w (IsFreshTry w.fresh)) (attempted w.step m) u result
         by_measured (Ok count) g j = rw j.0 (try_asks e q p count (λ n t. g n u.old i t) j.1)
-        by_measured (Err k) g j = try_unmeasured k result j.0 e q p (λ n t. g n u.old i t) x y j.1 j.2
+        by_measured (Err k) g j =
+            let a = need_of_more w m r e q.0 (sym (same_mark w m r e p) ∙ q.1) p in
+            let t = takes_more w.step d a.count u.old r.old r.new z.taken a.taken in
+            try_unreset k result j.0 (g (d + a.count) u.old i t).is y j.1 j.2 a.count a.taken
 
   module _ (d : ℕ) (u : CallRecord P T (TryState S)) (e : d ≡ (if u.first then 0 else u.state.distance)) where
     -- the kept distance could not be passed over

@@ -4,7 +4,8 @@ use Rattle.std.proofs.Math.Seq.{take-add}
 use Rattle.std.proofs.lemmas.List.{take-append-le, drop-append-le}
 use Rattle.combine_base.specs.Stream.View.{View, Takes, Moves}
 use Rattle.combine_base.specs.Stream.Calls.{no_token}
-use Rattle.combine_base.proofs.Streams.Distances.{count_stopped}
+use Rattle.combine_base.specs.Distances.{stops_distance}
+use Rattle.combine_base.proofs.Streams.Distances.{over_stopped}
 use Rattle.combine_base.proofs.Parsers.Progress.{moves_more}
 use Rattle.combine_combinator_recognize.specs.RecognizedTokens.{CollectsTokens, all_more, collects_tokens, hinders}
 use Rattle.combine_base.specs.declared.stream.Kind.{Kind}
@@ -35,10 +36,15 @@ module _ {T Held : Type 0} (more : Held → T → Held) where
 module _ {P T F Held : Type 0} (counts_failures : Type 0) (step : P → T → P) (held : F → Held) (more : Held → T → Held) (heapless : Type 0) (into : F) where
   -- a read gave no token, though there are some before the end
   pub collect_stopped : (old now new : View P T) (b f g : Failures) (i : ℕ) → Takes step i old now → b.reads ≤ f.reads → (n : ℕ) → i < n → n ≤ length old.unread → (k : Kind) → no_token counts_failures step now new f g k → CollectsTokens counts_failures step held more heapless into old new b g n (Err k)
-  collect_stopped old now new b f g i s h n l m k e =
-      let c = count_stopped step counts_failures old now new b f g i s h n l m k e in
-      let z = c.is in
-      record { is = (rw z.0 z.1, z.2) }
+  collect_stopped old now new b f g i s h n l m k e = record { is = by_kind k (over_stopped step counts_failures old now new b f g i s h n l k e).is }
+    where
+      by_kind : (k : Kind) → stops_distance counts_failures step old new b g n k × Moves step old new → hinders counts_failures step held more heapless into old new b g k × Moves step old new
+      by_kind kinds.End z = absurd (let a = z.0 in omega arith)
+      by_kind kinds.Read z = z
+      by_kind kinds.Refused z = absurd z.0
+      by_kind kinds.Memory z = absurd z.0
+      by_kind kinds.Reset z = absurd z.0
+      by_kind kinds.Lost z = absurd z.0
 
   -- it could not grow
   pub collect_starved : (old now new : View P T) (b g : Failures) (i n : ℕ) → Takes step i old now → Moves step now new → (heapless → ⊥) → CollectsTokens counts_failures step held more heapless into old new b g n (Err kinds.Memory)

@@ -1,28 +1,28 @@
 //! Tokens that were taken, read again and collected.
-ghost use Rattle.std.specs.Prelude.{◌≡◌};
+ghost use Rattle.std.specs.Prelude.{◌≤◌, length};
 ghost use Rattle.combine_base.specs.Stream.Calls.{Passes};
 ghost use Rattle.combine_base.specs.Stream.View.{Takes};
 ghost use Rattle.combine_combinator_recognize.specs.RecognizedTokens.{CollectsTokens};
 
 use combine_base::repeat::Append;
-use combine_base::stream::{Kind, Stream};
+use combine_base::stream::{Kind, ResetStream, StreamOnce};
 
-/// Takes the tokens up to that position, and appends them.
+/// Takes that many tokens, and appends them.
 ///
 /// # Errors
 ///
 /// `Read` if a read fails, and `Memory` if the collection can't grow. Some tokens are then taken.
 #[inline]
-fn collect_to<Input: Stream, F: Append<Input::Token>>(
+fn collect<Input: StreamOnce, F: Append<Input::Token>>(
     input: &mut Input,
-    end: Input::Position,
+    count: u64,
     into: F,
 ) -> Result<F, Kind>
     ensures passes { Passes (Input.marks input.old) (Input.marks input.new) (Input.failures input.old) (Input.failures input.new) }
-    ensures collects { (n : _) (v : _) → Takes Input.step n (Input.view input.old) v → end ≡ v.position → CollectsTokens Input.counts_failures Input.step F.held F.more F.heapless into (Input.view input.old) (Input.view input.new) (Input.failures input.old) (Input.failures input.new) n result }
+    ensures collects { count ≤ length (Input.view input.old).unread → CollectsTokens Input.counts_failures Input.step F.held F.more F.heapless into (Input.view input.old) (Input.view input.new) (Input.failures input.old) (Input.failures input.new) count result }
 {
     let mut into = into;
-    'tokens: while input.position().cmp(&end).is_lt() {
+    'tokens: for taken in 0..count {
         let token = input.uncons()?;
         if let Err(_refused) = into.append(token) {
             return Err(Kind::Memory);
@@ -37,7 +37,7 @@ fn collect_to<Input: Stream, F: Append<Input::Token>>(
 ///
 /// `Reset` if the stream can't be put back, `Read` if a read fails, and `Memory` if the collection can't grow.
 #[inline]
-pub fn collect_since<Input: Stream, F: Append<Input::Token>>(
+pub fn collect_since<Input: ResetStream, F: Append<Input::Token>>(
     input: &mut Input,
     start: Input::Checkpoint,
     into: F,
@@ -45,7 +45,7 @@ pub fn collect_since<Input: Stream, F: Append<Input::Token>>(
     ensures passes { Passes (Input.marks input.old) (Input.marks input.new) (Input.failures input.old) (Input.failures input.new) }
     ensures collects { (n : _) (v : _) → Input.stands input.old start v → Takes Input.step n v (Input.view input.old) → CollectsTokens Input.counts_failures Input.step F.held F.more F.heapless into v (Input.view input.new) (Input.failures input.old) (Input.failures input.new) n result }
 {
-    let end = input.position();
+    let count = input.count_since(start);
     input.reset(start)?;
-    collect_to(input, end, into)
+    collect(input, count, into)
 }

@@ -1,5 +1,5 @@
 -- calls of a stream are calls of that stream with spans
-use Rattle.std.proofs.Common.{ℕ, List, Bool, nat_lt, take, ap, sym, subst, ◌≡◌, ◌∙◌}
+use Rattle.std.proofs.Common.{ℕ, List, Bool, take, ap, sym, subst, ◌≡◌, ◌∙◌}
 use Rattle.std.specs.Prelude.{Result, Ok, Err}
 use Rattle.combine_base.specs.Stream.View.{View, Ahead, Takes, Moves, advanced}
 use Rattle.combine_base.specs.Stream.Calls.{Passes, Uncons, ResetTo, unconses, no_token}
@@ -14,7 +14,7 @@ module _ {P T : Type 0} (step : P → T → P) where
   span_advanced : (n : ℕ) (v : View P T) → spanned_view (advanced step n v) ≡ advanced (span_step step) n (spanned_view v)
   span_advanced n v = ap (λ (s : Span P). record { position = s; unread = (advanced step n v).unread; is_open = v.is_open }) (sym (span_after step v.position (take n v.unread)))
 
-  span_takes : (n : ℕ) (u v : View P T) → Takes step n u v → Takes (span_step step) n (spanned_view u) (spanned_view v)
+  pub span_takes : (n : ℕ) (u v : View P T) → Takes step n u v → Takes (span_step step) n (spanned_view u) (spanned_view v)
   span_takes n u v t = record { enough = t.enough; rest = ap spanned_view t.rest ∙ span_advanced n u }
 
   span_moves_on : (u v : View P T) → Moves step u v → Moves (span_step step) (spanned_view u) (spanned_view v)
@@ -75,8 +75,9 @@ module _ {P T : Type 0} (step : P → T → P) where
   span_ahead : (k : ℕ) (w u : View P T) → Ahead (span_step step) k (spanned_view w) (spanned_view u) → Ahead step k w u
   span_ahead k w u h = record { enough = h.enough; position = ap (λ (s : Span P). s.end) (h.position ∙ span_after step w.position (take k w.unread)); unread = h.unread }
 
-  pub span_moved : (stands : View P T → Type 0) (u : View P T) (b : Bool) → ((k : ℕ) (w : View P T) → stands w → Ahead step k w u → b ≡ nat_lt 0 k) → (k : ℕ) (v : View (Span P) T) → IsSpannedView stands v → Ahead (span_step step) k v (spanned_view u) → b ≡ nat_lt 0 k
-  span_moved stands u b h k v p a = h k p.inner p.stands (span_ahead k p.inner u (subst (λ (x : View (Span P) T). Ahead (span_step step) k x (spanned_view u)) p.is a))
+  -- what holds of where a checkpoint stands
+  pub span_since : (stands : View P T → Type 0) (u : View P T) (holds : ℕ → Type 0) → ((k : ℕ) (w : View P T) → stands w → Ahead step k w u → holds k) → (k : ℕ) (v : View (Span P) T) → IsSpannedView stands v → Ahead (span_step step) k v (spanned_view u) → holds k
+  span_since stands u holds h k v p a = h k p.inner p.stands (span_ahead k p.inner u (subst (λ (x : View (Span P) T). Ahead (span_step step) k x (spanned_view u)) p.is a))
 
   -- what was taken since a checkpoint
   pub span_distance : (size : T → ℕ) (stands : View P T → Type 0) (u : View P T) (n : ℕ) → ((w : View P T) (k : ℕ) → stands w → Ahead step k w u → n ≡ size_of size (take k w.unread)) → (v : View (Span P) T) (k : ℕ) → IsSpannedView stands v → Ahead (span_step step) k v (spanned_view u) → n ≡ size_of size (take k v.unread)

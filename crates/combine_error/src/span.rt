@@ -7,6 +7,7 @@ use crate::easy::Errors;
 use combine_base::error::{DetailedError, ParseError, UnexpectedParse};
 use combine_base::function::Function;
 use combine_base::stream::{self, Failures, Kind, Positioned, ResetStream, StreamOnce};
+use combine_stream::Unfailing;
 use combine_stream::range::{Range, RangeStream};
 
 /// A part of the input, from a position to another.
@@ -106,6 +107,11 @@ where
     }
 
     #[inline(always)]
+    fn advance_by(&mut self, count: u64) -> Result<(), Kind> {
+        self.0.advance_by(count)
+    }
+
+    #[inline(always)]
     fn is_partial(&self) -> bool {
         self.0.is_partial()
     }
@@ -144,6 +150,11 @@ where
     }
 
     #[inline(always)]
+    fn count_since(&self, since: S::Checkpoint) -> u64 {
+        self.0.count_since(since)
+    }
+
+    #[inline(always)]
     fn failures(&self) -> Failures {
         self.0.failures()
     }
@@ -167,6 +178,13 @@ impl<S: stream::Stream> stream::Stream for Stream<S>
 where
     S::Error: SpannedError<S::Token, S::Range, S::Position>,
 {}
+
+impl<S: Unfailing> Unfailing for Stream<S>
+where
+    S::Error: SpannedError<S::Token, S::Range, S::Position>,
+{
+    ghost never_fails = { λ s t. S.never_fails s.0 t.0 };
+}
 
 /// The ranges are those of the stream inside.
 impl<S: RangeStream> RangeStream for Stream<S>

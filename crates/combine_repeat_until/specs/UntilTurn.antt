@@ -138,7 +138,7 @@ module _ {P T E V S : Type 0} (counts_failures : Type 0) (step : P → T → P) 
       pub failures : counts_failures → later ≡ earlier
       pub state : left ≡ At (record { before = before; beyond = beyond; blocks = blocks; running = running })
 
-    -- it could not be put back, or not be read again
+    -- it could not be put back
     pub record HasBroken (start : View P T) : Type 0 where
       pub error : E
       pub answer : result ≡ CommitErr error

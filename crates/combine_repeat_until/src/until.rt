@@ -10,7 +10,7 @@ ghost use Rattle.combine_base.specs.Distances.{losing};
 ghost use Rattle.combine_repeat_until.specs.Until.{blocks_so_far, some_appended, until_fresh, until_valid, until};
 ghost use Rattle.combine_repeat_until.specs.UntilTurn.{OneBlockCall, ReachesPlace, HandsOutBlocks, KeepsBlocks, KeepsRunning, RefusesTurn, SettlesBlocks};
 
-use combine_base::distance::{measure, pass_tokens};
+use combine_base::distance::measure;
 use combine_base::error::{ParseResult, Tracked, accepted_after};
 use combine_base::parser::{ParseMode, Parser};
 use combine_base::refusal::refusal_saying;
@@ -213,11 +213,11 @@ fn pass_to<Input: Stream>(
     ensures passes { Passes (Input.marks input.old) (Input.marks input.new) (Input.failures input.old) (Input.failures input.new) }
     ensures comes { ReachesPlace Input.counts_failures Input.step (Input.stands input.new) (Input.view input.old) (Input.view input.new) (Input.failures input.old) (Input.failures input.new) before beyond result }
 {
-    if let Err(kind) = pass_tokens(input, before) {
+    if let Err(kind) = input.advance_by(before) {
         return Err(kind);
     }
     let place = input.checkpoint();
-    if let Err(kind) = pass_tokens(input, beyond) {
+    if let Err(kind) = input.advance_by(beyond) {
         return Err(kind);
     }
     Ok(place)

@@ -10,7 +10,7 @@ use Rattle.combine_base.specs.declared.stream.Kind.TheVariants as kinds
 use Rattle.combine_base.specs.declared.stream.Failures.{Failures}
 
 module _ {P T : Type 0} (b : Bool) where
-  marked_takes : (step : P → T → P) (n : ℕ) (u v : View P T) → Takes step n u v → Takes step n (marked b u) (marked b v)
+  pub marked_takes : (step : P → T → P) (n : ℕ) (u v : View P T) → Takes step n u v → Takes step n (marked b u) (marked b v)
   marked_takes step n u v t = record { enough = t.enough; rest = ap (marked b) t.rest }
 
   marked_moves : (step : P → T → P) (u v : View P T) → Moves step u v → Moves step (marked b u) (marked b v)

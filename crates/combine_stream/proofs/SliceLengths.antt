@@ -1,9 +1,7 @@
 -- positions that say how much is left, after some tokens
-use Rattle.std.proofs.Common.{ℕ, zero, suc, ◌+◌, ◌-◌, ◌≤◌, ◌≡◌, List, [], ◌∷◌, take, drop, length, arith, ap, sym, refl, ◌∙◌, false}
-use Rattle.std.proofs.lemmas.List.{length-drop}
-use Rattle.combine_base.specs.Stream.View.{View, Ahead, Takes, after_all}
+use Rattle.std.proofs.Common.{ℕ, zero, suc, ◌+◌, ◌-◌, ◌≤◌, ◌≡◌, List, [], ◌∷◌, take, drop, length, arith, ap, refl, ◌∙◌}
+use Rattle.combine_base.specs.Stream.View.{View, Ahead, after_all}
 use Rattle.combine_stream.specs.Range.Ranges.{size_of, IsItemPlace, size_take}
-use Rattle.combine_base.specs.Stream.Slices.{slice_view, one_less}
 use Rattle.combine_base.specs.declared.stream.slices.Left.{Left}
 
 pub left_after : {T : Type 0} (size : T → ℕ) (p : Left) (ts : List T) → after_all (λ p t. record { 0 = p.0 - size t }) p ts ≡ record { 0 = p.0 - size_of size ts }
@@ -18,12 +16,6 @@ module _ {T : Type 0} where
 
   pub slice_place : (n : ℕ) (ts : List T) → n ≤ length ts → IsItemPlace (λ t. 1) ts n n
   slice_place n ts h = record { within = h; items = ones_take n ts h }
-
-  pub slice_takes : (n : ℕ) (xs ys : List T) → n ≤ length xs → ys ≡ drop n xs → Takes one_less n (slice_view xs) (slice_view ys)
-  slice_takes n xs ys h e =
-      let p : after_all one_less (slice_view xs).position (take n xs) ≡ record { 0 = length xs - n } = left_after (λ (t : T). 1) (slice_view xs).position (take n xs) ∙ ap (λ k. record { 0 = length xs - k }) (ones_take n xs h) in
-      let q : length ys ≡ length xs - n = ap length e ∙ length-drop n xs in
-      record { enough = h; rest = ap (λ k. record { position = record { 0 = k }; unread = ys; is_open = false }) q ∙ ap (λ us. record { position = record { 0 = length xs - n }; unread = us; is_open = false }) e ∙ ap (λ i. record { position = i; unread = drop n xs; is_open = false }) (sym p) }
 
 -- what was passed over, by what is left
 pub distance_is : {P T : Type 0} (step : P → T → P) (size : T → ℕ) (n m k : ℕ) (v u : View P T) → Ahead step k v u → n ≡ size_of size v.unread → m ≡ size_of size u.unread → n - m ≡ size_of size (take k v.unread)

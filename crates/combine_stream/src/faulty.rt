@@ -107,7 +107,7 @@ impl Due {
 
 /// A stream of which one read fails, or one reset, or one of each: once, by its number. For tests.
 ///
-/// `uncons`, `uncons_range` and `uncons_while` are one read each. The calls before one that is to fail are counted down, so that no count grows without end.
+/// `uncons`, `uncons_range` and `uncons_while` are one read each, and `advance_by` is one for each token. The calls before one that is to fail are counted down, so that no count grows without end.
 ///
 /// # Errors
 ///
@@ -223,6 +223,11 @@ impl<S: Unfailing> ResetStream for Faulty<S> {
     #[inline]
     fn has_moved(&self, since: S::Checkpoint) -> bool {
         self.inner.has_moved(since)
+    }
+
+    #[inline]
+    fn count_since(&self, since: S::Checkpoint) -> u64 {
+        self.inner.count_since(since)
     }
 
     #[inline]

@@ -42,6 +42,11 @@ impl<S: StreamOnce> StreamOnce for MaybePartialStream<S> {
     }
 
     #[inline(always)]
+    fn advance_by(&mut self, count: u64) -> Result<(), Kind> {
+        self.0.advance_by(count)
+    }
+
+    #[inline(always)]
     fn is_partial(&self) -> bool {
         self.1
     }
@@ -74,6 +79,11 @@ impl<S: ResetStream> ResetStream for MaybePartialStream<S> {
     #[inline(always)]
     fn has_moved(&self, since: S::Checkpoint) -> bool {
         self.0.has_moved(since)
+    }
+
+    #[inline(always)]
+    fn count_since(&self, since: S::Checkpoint) -> u64 {
+        self.0.count_since(since)
     }
 
     #[inline(always)]

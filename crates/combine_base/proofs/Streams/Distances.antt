@@ -1,15 +1,13 @@
--- tokens passed over, and tokens counted: each turn goes on, and each way out is as promised
-use Rattle.std.proofs.Common.{ℕ, ◌+◌, ◌-◌, ◌<◌, ◌≤◌, ◌≡◌, List, ◌∷◌, Bool, true, false, length, drop, arith, ap, sym, subst, refl, ◌∙◌, length-drop, nat_lt, ltb-true, ltb-false, Ok, Err}
-use Rattle.std.specs.Cmp.{IsTotalOrder}
-use Rattle.std.specs.declared.cmp.Ordering.{Ordering}
-use Rattle.std.specs.declared.cmp.Ordering.TheVariants.{Less}
-use Rattle.std.specs.Ordering.{is_lt}
-use Rattle.combine_base.specs.Stream.View.{View, Takes, Moves, advanced}
-use Rattle.combine_base.specs.Stream.Advance.{advanced_twice}
+-- tokens passed over, one by one or all at once
+use Rattle.std.proofs.Common.{ℕ, zero, suc, ◌+◌, ◌-◌, ◌<◌, ◌≤◌, ◌≡◌, List, [], ◌∷◌, Bool, false, length, take, drop, arith, ap, sym, refl, ◌∙◌, length-drop, Result, Ok, Err}
+use Rattle.std.proofs.lemmas.List.{drop-drop, length-take-le}
+use Rattle.combine_base.specs.Stream.View.{View, Ahead, Takes, Moves, advanced, after_all}
+use Rattle.combine_base.specs.Stream.Fed.{one_more, after_count}
+use Rattle.combine_base.specs.Stream.Slices.{one_less, slice_view}
 use Rattle.combine_base.specs.Stream.Calls.{TakesToken, FindsEnd, no_token}
-use Rattle.combine_base.specs.Distances.{PassesOver, Counts, MeasuresDistance}
-use Rattle.combine_base.proofs.Streams.Movement.{moved}
+use Rattle.combine_base.specs.Distances.{PassesOver, stops_distance}
 use Rattle.combine_base.proofs.Parsers.Progress.{moves_more}
+use Rattle.combine_base.specs.declared.stream.slices.Left.{Left}
 use Rattle.combine_base.specs.declared.stream.Kind.{Kind}
 use Rattle.combine_base.specs.declared.stream.Kind.TheVariants as kinds
 use Rattle.combine_base.specs.declared.stream.Failures.{Failures}
@@ -31,15 +29,9 @@ module _ {P T : Type 0} (step : P → T → P) where
       let e : length v.unread ≡ length (drop n u.unread) = ap (λ (x : View P T). length x.unread) t.rest in
       omega (arith, length-drop n u.unread)
 
-  -- from a nearer place to a farther one
-  pub takes_on : (i m n : ℕ) (u v w : View P T) → n ≡ i + m → Takes step i u v → Takes step n u w → Takes step m v w
-  takes_on i m n u v w e s t =
-      let a = tokens_left_over i u v s in
-      let b = t.enough in
-      record {
-        enough = omega arith;
-        rest = t.rest ∙ ap (λ k. advanced step k u) e ∙ sym (advanced_twice step i m u) ∙ ap (advanced step m) (sym s.rest);
-      }
+  -- who took tokens stands ahead
+  pub takes_ahead : {n : ℕ} {u v : View P T} → Takes step n u v → Ahead step n u v
+  takes_ahead t = record { enough = t.enough; position = ap (λ (x : View P T). x.position) t.rest; unread = ap (λ (x : View P T). x.unread) t.rest }
 
   -- a read after i tokens gave none
   module _ (counts_failures : Type 0) (old now new : View P T) (b f g : Failures) (i : ℕ) (s : Takes step i old now) (h : b.reads ≤ f.reads) where
@@ -60,41 +52,33 @@ module _ {P T : Type 0} (step : P → T → P) where
     over_stopped d l kinds.Reset e = absurd e
     over_stopped d l kinds.Lost e = absurd e
 
-    pub count_stopped : (n : ℕ) → i < n → n ≤ length old.unread → (k : Kind) → no_token counts_failures step now new f g k → Counts counts_failures step old new b g n (Err k)
-    count_stopped n l m kinds.End e = absurd (let z = found_end e in omega arith)
-    count_stopped n l m kinds.Read e = let z = e.1 in record { is = (refl, omega arith, moves_more step i old now new s e.0) }
-    count_stopped n l m kinds.Refused e = absurd e
-    count_stopped n l m kinds.Memory e = absurd e
-    count_stopped n l m kinds.Reset e = absurd e
-    count_stopped n l m kinds.Lost e = absurd e
+-- the same of other views, as long, from which as much is taken
+pub over_as : {P Q T : Type 0} (counts_failures : Type 0) (step : P → T → P) (step' : Q → T → Q) (u v : View P T) (x y : View Q T) (f g : Failures) → length x.unread ≡ length u.unread → ((n : ℕ) → Takes step n u v → Takes step' n x y) → (d : ℕ) (r : Result Unit Kind) → PassesOver counts_failures step u v f g d r → PassesOver counts_failures step' x y f g d r
+over_as counts_failures step step' u v x y f g l t d (Ok i) h = record { is = (t d h.is.0, h.is.1) }
+over_as counts_failures step step' u v x y f g l t d (Err k) h = record { is = (by_kind k h.is.0, record { count = h.is.1.count; taken = t h.is.1.count h.is.1.taken }) }
+  where
+    by_kind : (k : Kind) → stops_distance counts_failures step u v f g d k → stops_distance counts_failures step' x y f g d k
+    by_kind kinds.End h = omega arith
+    by_kind kinds.Read h = h
+    by_kind kinds.Refused h = h
+    by_kind kinds.Memory h = h
+    by_kind kinds.Reset h = h
+    by_kind kinds.Lost h = h
 
--- the stream could not be put back to v
-pub not_measured : {P T : Type 0} (counts_failures : Type 0) (step : P → T → P) (v old new : View P T) (f g : Failures) (n : ℕ) (k : Kind) → Takes step n v old → (k ≡ kinds.Reset) × Moves step old new × (f.resets < g.resets) → MeasuresDistance counts_failures step old new f g v n (Err k)
-not_measured counts_failures step v old new f g n k t r = record { is = (rw r.0 r.2, moves_more step n v old new t r.1) }
+-- all at once, where positions are counts, and where they say how much is left
+module _ {T : Type 0} where
+  pub takes_counted : (p i n q j : ℕ) (xs : List T) (b : Bool) → q ≡ p + n → j ≡ i + n → n ≤ length (drop i xs) → Takes one_more n (record { position = p; unread = drop i xs; is_open = b }) (record { position = q; unread = drop j xs; is_open = b })
+  takes_counted p i n q j xs b e f h =
+      let position = e ∙ sym (after_count p (take n (drop i xs)) ∙ ap (λ k. p + k) (length-take-le n (drop i xs) h)) in
+      let unread = ap (λ k. drop k xs) f ∙ sym (drop-drop n i xs) in
+      record { enough = h; rest = ap (λ k. record { position = k; unread = drop j xs; is_open = b }) position ∙ ap (λ us. record { position = after_all one_more p (take n (drop i xs)); unread = us; is_open = b }) unread }
 
--- the stream was put back to v, the tokens to where it was were counted, and it is put back again
-module _ {P T : Type 0} (counts_failures : Type 0) (step : P → T → P) (v old a b new : View P T) (f0 f1 f2 f3 : Failures) (n : ℕ) (e : a ≡ v) where
-  pub measure_unreset : (c : ℕ) → Counts counts_failures step a b f1 f2 n (Ok c) → (k : Kind) → (k ≡ kinds.Reset) × Moves step b new × (f2.resets < f3.resets) → f0.resets ≤ f2.resets → MeasuresDistance counts_failures step old new f0 f3 v n (Err k)
-  measure_unreset c h k r i =
-      let j = r.2 in
-      record { is = (rw r.0 (omega arith), moves_more step n v b new (subst (λ x. Takes step n x b) e h.is.1) r.1) }
+  less_after : (n : ℕ) (xs : List T) (p : Left) → n ≤ length xs → after_all one_less p (take n xs) ≡ record { 0 = p.0 - n }
+  less_after zero xs p h = ap (λ k. record { 0 = k }) {x = p.0} {y = p.0 - 0} (omega arith)
+  less_after (suc n) [] p h = absurd (omega arith)
+  less_after (suc n) (x ∷ xs) p h = less_after n xs (record { 0 = p.0 - 1 }) (omega arith) ∙ ap (λ k. record { 0 = k }) {x = p.0 - 1 - n} {y = p.0 - suc n} (omega arith)
 
-  pub measure_stopped : (k : Kind) → Counts counts_failures step a b f1 f2 n (Err k) → f0.reads ≤ f1.reads → MeasuresDistance counts_failures step old b f0 f2 v n (Err k)
-  measure_stopped k h i =
-      let m = h.is.2 in
-      let j = h.is.1 in
-      record { is = (rw h.is.0 (omega arith), record { count = m.count; taken = subst (λ x. Takes step m.count x b) e m.taken }) }
-
-  pub measure_back : (c : ℕ) → Counts counts_failures step a b f1 f2 n (Ok c) → new ≡ v → (counts_failures → f1 ≡ f0) → (counts_failures → f3 ≡ f2) → MeasuresDistance counts_failures step old new f0 f3 v n (Ok c)
-  measure_back c h q i j = record { is = (h.is.0, q, λ s. j s ∙ h.is.2 s ∙ i s) }
-
--- positions tell whether a place was reached: a stream now stands i tokens on from u, and w is n tokens on
-module _ {S P T : Type 0} (cmp : P → P → Ordering) (step : P → T → P) (view : S → View P T) (h : IsTotalOrder cmp) (moves : (s : S) (n : ℕ) → 0 < n → n ≤ length (view s).unread → cmp (view s).position (advanced step n (view s)).position ≡ Less) (i n : ℕ) (u : View P T) (now : S) (w : View P T) (s : Takes step i u (view now)) (t : Takes step n u w) (l : i ≤ n) where
-  test : is_lt (cmp (view now).position w.position) ≡ nat_lt 0 (n - i)
-  test = moved cmp step view h moves (n - i) now w (takes_on step i (n - i) n u (view now) w (omega arith) s t)
-
-  pub not_yet : is_lt (cmp (view now).position w.position) ≡ true → i < n
-  not_yet e = let z = ltb-true 0 (n - i) (sym test ∙ e) in omega arith
-
-  pub position_reached : is_lt (cmp (view now).position w.position) ≡ false → i ≡ n
-  position_reached e = let z = ltb-false 0 (n - i) (sym test ∙ e) in omega arith
+  pub slice_takes : (n : ℕ) (xs ys : List T) → n ≤ length xs → ys ≡ drop n xs → Takes one_less n (slice_view xs) (slice_view ys)
+  slice_takes n xs ys h e =
+      let position : record { 0 = length ys } ≡ after_all one_less (slice_view xs).position (take n xs) = ap (λ k. record { 0 = k }) (ap length e ∙ length-drop n xs) ∙ sym (less_after n xs (slice_view xs).position h) in
+      record { enough = h; rest = ap (λ p. record { position = p; unread = ys; is_open = false }) position ∙ ap (λ us. record { position = after_all one_less (slice_view xs).position (take n xs); unread = us; is_open = false }) e }

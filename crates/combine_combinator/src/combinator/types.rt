@@ -10,7 +10,7 @@ ghost use Rattle.combine_base.specs.Distances.{losing};
 use super::TryState;
 pub use super::look::{LookAhead, NoPartial, NotFollowedBy};
 pub use super::values::{Ignore, Nothing, Pick, Picked};
-use combine_base::distance::{measure, pass_tokens};
+use combine_base::distance::measure;
 use combine_base::error::{ErrorOffset, ParseError, ParseResult, Tracked, accepted_after};
 use combine_base::function::Function;
 use combine_base::parser::{Outputs, ParseMode, Parser};
@@ -129,7 +129,7 @@ impl<Input: Stream, P: Parser<Input>> Parser<Input> for Try<P> {
         let start = input.checkpoint();
         let position = input.position();
         let distance = state.begin(mode.is_first());
-        if let Err(kind) = pass_tokens(input, distance) {
+        if let Err(kind) = input.advance_by(distance) {
             return fault(input, lost(kind), position, &mut state.part);
         }
         match self.0.parse_mode(mode, input, &mut state.part) {

@@ -5,8 +5,8 @@ ghost use Rattle.combine_error.specs.Easy.{inner_stream};
 use crate::easy::Errors;
 use combine_base::function::Function;
 use combine_base::stream::{self, Failures, Kind, Positioned, ResetStream, StreamOnce};
-use combine_stream::position;
 use combine_stream::range::{Range, RangeStream};
+use combine_stream::{Unfailing, position};
 use std::alloc::Global;
 
 /// A stream whose parsers are refused with errors that keep items.
@@ -80,6 +80,11 @@ where
     }
 
     #[inline(always)]
+    fn advance_by(&mut self, count: u64) -> Result<(), Kind> {
+        self.inner.advance_by(count)
+    }
+
+    #[inline(always)]
     fn is_partial(&self) -> bool {
         self.inner.is_partial()
     }
@@ -125,6 +130,11 @@ where
     }
 
     #[inline(always)]
+    fn count_since(&self, since: S::Checkpoint) -> u64 {
+        self.inner.count_since(since)
+    }
+
+    #[inline(always)]
     fn failures(&self) -> Failures {
         self.inner.failures()
     }
@@ -146,6 +156,14 @@ where
     S::Token: PartialEq,
     S::Range: PartialEq,
 {}
+
+impl<S: Unfailing> Unfailing for Stream<S>
+where
+    S::Token: PartialEq,
+    S::Range: PartialEq,
+{
+    ghost never_fails = { λ s t. S.never_fails s.inner t.inner };
+}
 
 /// The ranges are those of the stream inside.
 impl<S: RangeStream> RangeStream for Stream<S>

@@ -148,6 +148,15 @@ impl<'a, T: Copy> StreamOnce for SliceStream<'a, T> {
         }
     }
 
+    #[inline(always)]
+    fn advance_by(&mut self, count: u64) -> Result<(), Kind> {
+        if count > (self.tokens.len() - self.at) as u64 {
+            return Err(Kind::End);
+        }
+        self.at += count as usize;
+        Ok(())
+    }
+
     #[inline]
     fn is_partial(&self) -> bool {
         false
@@ -184,6 +193,11 @@ impl<'a, T: Copy> ResetStream for SliceStream<'a, T> {
     #[inline(always)]
     fn has_moved(&self, since: SliceStream<'a, T>) -> bool {
         since.at != self.at
+    }
+
+    #[inline(always)]
+    fn count_since(&self, since: SliceStream<'a, T>) -> u64 {
+        self.at.saturating_sub(since.at) as u64
     }
 
     #[inline]

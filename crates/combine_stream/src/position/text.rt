@@ -14,7 +14,7 @@ use crate::range::{Range, RangeStream};
 use combine_base::error::UnexpectedParse;
 use combine_base::function::Function;
 use combine_base::stream::{
-    Failures, Kind, Positioned, ResetStream, Stream, StreamOnce, split_first,
+    Failures, Kind, Positioned, ResetStream, Stream, StreamOnce, count_before, split_first,
 };
 use std::fmt;
 
@@ -230,6 +230,11 @@ impl<'a> ResetStream for TextStream<'a> {
     #[inline(always)]
     fn has_moved(&self, since: TextStream<'a>) -> bool {
         is_apart(since.rest, self.rest)
+    }
+
+    #[inline]
+    fn count_since(&self, since: TextStream<'a>) -> u64 {
+        count_before(since.rest, self.rest)
     }
 
     #[inline]

@@ -1,5 +1,5 @@
-use Rattle.std.proofs.Common.{sym}
 use Rattle.std.proofs.lemmas.Result.{err_from_is_err_and}
+use Rattle.combine_base.proofs.Streams.Distances.{takes_ahead}
 use Rattle.combine_combinator_recognize.proofs.TokenCollection.{collect_again, collect_unreset}
 use Rattle.combine_combinator_recognize.proofs.collecting.collect_since.Goals as goal
 
@@ -13,4 +13,6 @@ returns-clause-collects g c n v m t =
     let r = c.in_ok-reset.ensures.to.is in
     let e = r.0 v m in
     let p = c.reset.ensures.passes in
-    collect_again _ _ _ _ _ _ v _ _ _ _ _ n e r.1 p.reads p.resets _ (c.collect_to.ensures.collects n _ (rw (sym e) at t) c.position-end.ensures)
+    let l = c.count_since-count.ensures n v m (takes_ahead _ t) in
+    let o = t.enough in
+    collect_again _ _ _ _ _ _ v _ _ _ _ _ n e r.1 p.reads p.resets _ (rw l at c.collect.ensures.collects (rw e o))

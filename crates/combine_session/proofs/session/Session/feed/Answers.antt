@@ -4,6 +4,9 @@ use Rattle.combine_session.specs.Sessions.{admits, session_answer, course_of, st
 use Rattle.combine_session.proofs.Sessions.{admits_fewer, answers_feed, fed_ok, session_runs, keeps_none, leaves_few}
 use Rattle.combine_session.proofs.session.Session.feed.Goals as goal
 
+pub feed-requires-clause-is_open : goal.feed-requires-clause-is_open
+feed-requires-clause-is_open g c = c.self.invariant.is_open (session_runs c.self.inside.stage c.in_ok-check.field-0 (sym c.check.ensures ∙ c.in_ok-check.was))
+
 pub invariant_of-self-2 : goal.invariant_of-self-2
 invariant_of-self-2 g c =
     let running = session_runs c.self.inside.stage c.in_ok-check.field-0 (sym c.check.ensures ∙ c.in_ok-check.was) in

@@ -1,6 +1,7 @@
 use Rattle.std.proofs.Common.{refl, arith}
 use Rattle.combine_stream.specs.Range.Measures.{ones}
-use Rattle.combine_stream.proofs.SliceLengths.{slice_place, slice_takes}
+use Rattle.combine_base.proofs.Streams.Distances.{slice_takes}
+use Rattle.combine_stream.proofs.SliceLengths.{slice_place}
 use Rattle.combine_stream.proofs.range.slices.RefSliceRangeStream.uncons_range.Goals as goal
 
 pub returns-then-n-self-clause-read : goal.returns-then-n-self-clause-read

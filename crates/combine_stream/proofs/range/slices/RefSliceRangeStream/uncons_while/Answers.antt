@@ -1,7 +1,8 @@
 use Rattle.std.proofs.Common.{arith, refl}
 use Rattle.combine_stream.proofs.BlockWalks.{few}
 use Rattle.combine_stream.proofs.TokenWalks.{while_by_range}
-use Rattle.combine_stream.proofs.SliceLengths.{slice_place, slice_takes}
+use Rattle.combine_base.proofs.Streams.Distances.{slice_takes}
+use Rattle.combine_stream.proofs.SliceLengths.{slice_place}
 use Rattle.combine_stream.proofs.range.slices.RefSliceRangeStream.uncons_while.Goals as goal
 
 pub split_at-requires : goal.split_at-requires

@@ -1,0 +1,6 @@
+use Rattle.std.proofs.Common.{ℕ, ◌≤◌, drop, length, subst, ap, ◌∙◌}
+use Rattle.combine_base.specs.Stream.View.{View}
+use Rattle.combine_base.proofs.stream.texts.RefStrResetStream.count_since.Goals as goal
+
+pub returns : goal.returns
+returns c n v e t = c.count_before.ensures n (subst (λ (u : View _ ℕ). n ≤ length u.unread) e t.enough) (t.unread ∙ ap (λ (u : View _ ℕ). drop n u.unread) e)
