@@ -82,7 +82,7 @@ impl TurnIndex {
 
 /// How many turns there are.
 pub trait TurnBounds: Copy {
-    ghost use Rattle.std.specs.Prelude.{◌≡◌, ℕ};
+    ghost use Rattle.std.specs.Prelude.{◌≡◌, ◌≤◌, ℕ, false};
     ghost use Rattle.combine_base.specs.Stream.View.{View, Takes};
     ghost use Rattle.combine_repeat_turns.specs.Turns.Bounds.{count_bound, full_at, is_block_at, is_unbounded, keeps_refusal, missing_turns};
     ghost use Rattle.combine_repeat_turns.specs.declared.bounds.Bounds.{Bounds};
@@ -98,8 +98,10 @@ pub trait TurnBounds: Copy {
     fn is_unbounded(self) -> bool
         ensures { result ≡ is_unbounded (bounds self) };
 
-    /// Returns for how many values a collection asks for room: for none in a call that resumes.
-    fn room(self, first: bool) -> usize;
+    /// Returns for how many values a collection asks for room: at most 1,024, and for none in a call that resumes.
+    fn room(self, first: bool) -> usize
+        ensures few { result ≤ 1024 }
+        ensures resumes { first ≡ false → result ≡ 0 };
 
     /// Returns whether there are as many turns as there may be.
     fn is_full(self, index: TurnIndex) -> bool
