@@ -41,8 +41,8 @@ module _ {F P T R E V S : Type 0} (makes : F → P → Type 0) (meaning : P → 
     decodes_now r h = let f : by_phase makes meaning old new piece old.phase r = h.is in (subst (λ s. by_phase makes meaning old new piece s r) far.stands.phase f) far.behind far.stands
 
     module _ (b : Batch V) (h : Decodes makes meaning old new piece (Ok b)) where
-      pub gives_now : GivesMessages (made_reading meaning (makes from)) meaning (far.behind ++ piece) new.course new.at_boundary b
-      gives_now = subst (λ f. GivesMessages (made_reading meaning (makes f)) meaning (far.behind ++ piece) new.course new.at_boundary b) far.maker (decodes_now (Ok b) h).1.gives
+      pub gives_now : GivesMessages (made_reading meaning (makes from)) meaning (far.behind ++ piece) new.course new.waiting b
+      gives_now = subst (λ f. GivesMessages (made_reading meaning (makes f)) meaning (far.behind ++ piece) new.course new.waiting b) far.maker (decodes_now (Ok b) h).1.gives
 
       module _ (law : IsReading (made_reading meaning (makes from))) where
         divided_now : DividesMessages (made_reading meaning (makes from)) (fed ++ piece) (vs ++ b.messages.items) gives_now.behind
@@ -66,25 +66,26 @@ module _ {F P T R E V S : Type 0} (makes : F → P → Type 0) (meaning : P → 
           stands = record {
             phase = (decodes_now (Ok b) h).1.phase ∙ ap phase_after i;
             after = subst (λ f. After (made_reading meaning (makes f)) meaning gives_now.behind new.course) (sym (h.maker ∙ far.maker)) (gives_now.goes_on i);
-            boundary = gives_now.boundary;
-            limit = (decodes_now (Ok b) h).1.limit ∙ far.stands.limit;
+            waiting = gives_now.number;
+            few = subst (λ n. new.waiting ≤ n) (sym h.limit) (decodes_now (Ok b) h).1.few;
+            session_limit = (decodes_now (Ok b) h).1.session_limit ∙ far.stands.session_limit;
           };
           maker = h.maker ∙ far.maker;
         }
 
-    -- why there are no messages, where the piece is within the whole input
-    pub fails_now : (pieces : List (List T)) → length fed + length piece ≤ length (concatenated pieces) → (e : DecodeError) → Decodes makes meaning old new piece (Err e) → DecodesPieces (made_reading meaning (makes from)) pieces (Err e)
-    fails_now pieces w errors.Memory h = record { is = tt }
-    fails_now pieces w errors.TooLong h =
-        let long : 2 ^ 64 ≤ length far.behind + length piece = (decodes_now (Err errors.TooLong) h).0 in
+    -- why there are no messages, where the piece is within the whole input, and there is no limit
+    pub fails_now : (pieces : List (List T)) → old.limit + 1 ≡ 2 ^ 64 → length fed + length piece ≤ length (concatenated pieces) → (e : DecodeError) → Decodes makes meaning old new piece (Err e) → DecodesPieces (made_reading meaning (makes from)) pieces (Err e)
+    fails_now pieces limit w errors.Memory h = record { is = tt }
+    fails_now pieces limit w errors.TooLong h =
+        let long : old.limit < length far.behind + length piece = (decodes_now (Err errors.TooLong) h).0 in
         let most = behind_within (made_reading meaning (makes from)) fed vs far.behind far.divided in
         record { is = omega arith }
-    fails_now pieces w (errors.Fault k) h = record { is = (decodes_now (Err (errors.Fault k)) h).1 }
-    fails_now pieces w errors.Closed h = absurd (decodes_now (Err errors.Closed) h)
-    fails_now pieces w errors.Failed h = absurd (decodes_now (Err errors.Failed) h)
+    fails_now pieces limit w (errors.Fault k) h = record { is = (decodes_now (Err (errors.Fault k)) h).1 }
+    fails_now pieces limit w errors.Closed h = absurd (decodes_now (Err errors.Closed) h)
+    fails_now pieces limit w errors.Failed h = absurd (decodes_now (Err errors.Failed) h)
 
-    pub fails_more : (before after : List V) (pieces : List (List T)) → length fed + length piece ≤ length (concatenated pieces) → (e : DecodeError) → FeedsMore makes meaning old new piece before after (Err e) → DecodesPieces (made_reading meaning (makes from)) pieces (Err e)
-    fails_more before after pieces w e h = ⊎_elim (λ i. subst (λ x. DecodesPieces (made_reading meaning (makes from)) pieces (Err x)) (sym i) (record { is = refl })) (λ i. fails_now pieces w e i) h.is
+    pub fails_more : (before after : List V) (pieces : List (List T)) → old.limit + 1 ≡ 2 ^ 64 → length fed + length piece ≤ length (concatenated pieces) → (e : DecodeError) → FeedsMore makes meaning old new piece before after (Err e) → DecodesPieces (made_reading meaning (makes from)) pieces (Err e)
+    fails_more before after pieces limit w e h = ⊎_elim (λ i. subst (λ x. DecodesPieces (made_reading meaning (makes from)) pieces (Err x)) (sym i) (record { is = refl })) (λ i. fails_now pieces limit w e i) h.is
 
   -- in a loop over the pieces, of which the first n were fed
   module _ (law : IsReading (made_reading meaning (makes from))) (pieces : List (List T)) (n : ℕ) (vs : List V) (old : Decoding F P T S) (far : DecoderWasFed (concatenated (take n pieces)) vs old) (new : Decoding F P T S) (us : List V) where
@@ -113,8 +114,8 @@ module _ {F P T R E V S : Type 0} (makes : F → P → Type 0) (meaning : P → 
           let z : b.end ≢ ends.More = λ q. d (sym j ∙ q) in
           record { is = (length (k.behind ++ x), subst (λ l. Messages message l b.messages.items b.end (length (k.behind ++ x))) all_fed (ended_longer message law (concatenated (take (n + 1) pieces)) x b.messages.items b.end (length (gives_now (concatenated (take n pieces)) vs old far piece new h.is.0 h.is.1).behind) z k)) }
 
-      pub decoder_fails_at : (e : DecodeError) → FeedsMore makes meaning old new piece vs us (Err e) → DecodesPieces (made_reading meaning (makes from)) pieces (Err e)
-      decoder_fails_at e h = fails_more (concatenated (take n pieces)) vs old far piece new vs us pieces no_longer e h
+      pub decoder_fails_at : old.limit + 1 ≡ 2 ^ 64 → (e : DecodeError) → FeedsMore makes meaning old new piece vs us (Err e) → DecodesPieces (made_reading meaning (makes from)) pieces (Err e)
+      decoder_fails_at limit e h = fails_more (concatenated (take n pieces)) vs old far piece new vs us pieces limit no_longer e h
 
     module _ (all : n ≡ length pieces) where
       far_all : DecoderWasFed (concatenated pieces) vs old
@@ -126,5 +127,5 @@ module _ {F P T R E V S : Type 0} (makes : F → P → Type 0) (meaning : P → 
           let m = messages_now (concatenated pieces) vs old far_all [] new h.is.0 h.is.1 law b.end b.messages.items (h.is.2 ∙ sym j) (i ∙ h.is.3) in
           record { is = (length (gives_now (concatenated pieces) vs old far_all [] new h.is.0 h.is.1).behind, subst (λ l. Messages message l b.messages.items b.end (length (gives_now (concatenated pieces) vs old far_all [] new h.is.0 h.is.1).behind)) (append-nil (concatenated pieces)) m) }
 
-      pub fails_behind : (e : DecodeError) → FeedsMore makes meaning old new [] vs us (Err e) → DecodesPieces (made_reading meaning (makes from)) pieces (Err e)
-      fails_behind e h = fails_more (concatenated pieces) vs old far_all [] new vs us pieces (omega arith) e h
+      pub fails_behind : old.limit + 1 ≡ 2 ^ 64 → (e : DecodeError) → FeedsMore makes meaning old new [] vs us (Err e) → DecodesPieces (made_reading meaning (makes from)) pieces (Err e)
+      fails_behind limit e h = fails_more (concatenated pieces) vs old far_all [] new vs us pieces limit (omega arith) e h

@@ -1,5 +1,5 @@
 -- one message of a decoder, by what its session promises
-use Rattle.std.proofs.Common.{ℕ, ◌+◌, ◌<◌, ◌≤◌, ◌≡◌, ◌↔◌, nat_lt, if◌then◌else◌, ◌∷◌, refl, sym, ◌∙◌, ap, subst, List, [], ◌++◌, length, drop, Option, Bool, true, false, append_assoc, arith, ltb-true, eqb-true, lt-ltb, nat_eq, eq-eqb, Result, Ok}
+use Rattle.std.proofs.Common.{ℕ, ◌+◌, ◌<◌, ◌≤◌, ◌≡◌, nat_lt, if◌then◌else◌, ◌∷◌, refl, sym, ◌∙◌, ap, subst, List, [], ◌++◌, length, drop, Option, Bool, true, false, append_assoc, arith, ltb-true, lt-ltb, Result, Ok}
 use Rattle.std.proofs.lemmas.List.{drop-append-le, drop-drop, length-append, length-drop}
 use Rattle.combine_base.specs.Parser.Outcome.{Outcome, Accepted, Refused, Undecided}
 use Rattle.combine_base.specs.Parser.Meaning.{Meaning, Reading}
@@ -115,64 +115,60 @@ remaining u (answers.Refused e t k) = u
 pub smaller : {V : Type 0} (u : ℕ) (a : Answer V UnexpectedParse) (v : V) (t : ℕ) (k : Bool) → a ≡ answers.Accepted v t k → 0 < t → (n : ℕ) → n ≤ u → n < remaining u a
 smaller u a v t k e i n h = subst (λ z. n < remaining u z) (sym e) (subst (λ b. n < u + (if b then 1 else 0)) (sym (lt-ltb 0 t i)) (omega arith))
 
--- whether nothing is left, by its length
-pub by_length : (b : Bool) (n : ℕ) → b ≡ nat_eq n 0 → ((b ≡ true) ↔ (n ≡ 0))
-by_length b n e = (λ i. eqb-true n 0 (sym e ∙ i), λ i. e ∙ eq-eqb n 0 i)
-
 module _ {P T R E V S : Type 0} (message : Reading ℕ T V) (meaning : P → Meaning ℕ T R E V S) where
   -- the messages so far of these tokens, and what the session was told of those behind them
-  pub record GaveMessages (l : List T) (vs : List V) (c : Course P T S) (a : Answer V UnexpectedParse) (at : Bool) : Type 0 where
+  pub record GaveMessages (l : List T) (vs : List V) (c : Course P T S) (a : Answer V UnexpectedParse) (waiting : ℕ) : Type 0 where
     pub behind : List T
     pub divided : DividesMessages message l vs behind
     pub told : AnswersMessage message meaning behind c a
-    pub boundary : (at ≡ true) ↔ (length behind ≡ 0)
+    pub number : waiting ≡ length behind
 
   -- one message more
   one_more : (l : List T) (vs : List V) (behind : List T) (v : V) (t : ℕ) (k : Bool) → 0 < t → DividesMessages message l vs behind → on_open message behind (Accepted v t k) → DividesMessages message l (vs ++ v ∷ []) (drop t behind)
   one_more l [] behind v t k i d h = (t, k, i, subst (λ z. on_open message z (Accepted v t k)) (sym d) h, ap (drop t) d)
   one_more l (w ∷ vs) behind v t k i d h = (d.0, d.1, d.2, d.3, one_more (drop d.0 l) vs behind v t k i d.4 h)
 
-  pub messages_start : (l : List T) (c : Course P T S) (a : Answer V UnexpectedParse) (at : Bool) → AnswersMessage message meaning l c a → ((at ≡ true) ↔ (length l ≡ 0)) → GaveMessages l [] c a at
-  messages_start l c a at h b = record { behind = l; divided = refl; told = h; boundary = b }
+  pub messages_start : (l : List T) (c : Course P T S) (a : Answer V UnexpectedParse) (waiting : ℕ) → AnswersMessage message meaning l c a → waiting ≡ length l → GaveMessages l [] c a waiting
+  messages_start l c a waiting h n = record { behind = l; divided = refl; told = h; number = n }
 
-  module _ (l : List T) (b : Batch V) (c : Course P T S) (at : Bool) where
-    pub gives_more : b.end ≡ ends.More → GaveMessages l b.messages.items c answers.More at → GivesMessages message meaning l c at b
+  module _ (l : List T) (b : Batch V) (c : Course P T S) (waiting : ℕ) where
+    pub gives_more : b.end ≡ ends.More → GaveMessages l b.messages.items c answers.More waiting → GivesMessages message meaning l c waiting b
     gives_more e h = record {
       behind = h.behind;
       divided = h.divided;
       stop = subst (ends_messages (on_open message h.behind)) (sym e) h.told.is.0;
       refused = subst (refused_at h.behind c.seen.unread) (sym e) tt;
       goes_on = λ i. h.told.is.1;
-      boundary = h.boundary;
+      number = h.number;
     }
 
-    pub gives_refused : (e : UnexpectedParse) (t : ℕ) (k : Bool) → b.end ≡ ends.Refused t k → GaveMessages l b.messages.items c (answers.Refused e t k) at → GivesMessages message meaning l c at b
+    pub gives_refused : (e : UnexpectedParse) (t : ℕ) (k : Bool) → b.end ≡ ends.Refused t k → GaveMessages l b.messages.items c (answers.Refused e t k) waiting → GivesMessages message meaning l c waiting b
     gives_refused x t k e h = record {
       behind = h.behind;
       divided = h.divided;
       stop = subst (ends_messages (on_open message h.behind)) (sym e) h.told.is.0;
       refused = subst (refused_at h.behind c.seen.unread) (sym e) (h.told.is.1, h.told.is.2);
       goes_on = λ i. absurd (let j = sym e ∙ i in cc);
-      boundary = h.boundary;
+      number = h.number;
     }
 
-    pub gives_empty : (v : V) (t : ℕ) (k : Bool) → t ≡ 0 → b.end ≡ ends.EmptyMessage → GaveMessages l b.messages.items c (answers.Accepted v t k) at → GivesMessages message meaning l c at b
+    pub gives_empty : (v : V) (t : ℕ) (k : Bool) → t ≡ 0 → b.end ≡ ends.EmptyMessage → GaveMessages l b.messages.items c (answers.Accepted v t k) waiting → GivesMessages message meaning l c waiting b
     gives_empty v t k z e h = record {
       behind = h.behind;
       divided = h.divided;
       stop = subst (ends_messages (on_open message h.behind)) (sym e) (v, k, subst (λ n. on_open message h.behind (Accepted v n k)) z h.told.is.0);
       refused = subst (refused_at h.behind c.seen.unread) (sym e) tt;
       goes_on = λ i. absurd (let j = sym e ∙ i in cc);
-      boundary = h.boundary;
+      number = h.number;
     }
 
   -- the next session was fed what the last message left
-  pub next_message_fed : (l : List T) (vs : List V) (c : Course P T S) (v : V) (t : ℕ) (k : Bool) (at : Bool) → GaveMessages l vs c (answers.Accepted v t k) at → 0 < t → (new : Course P T S) (a : Answer V UnexpectedParse) (next : Bool) → AnswersMessage message meaning c.seen.unread new a → ((next ≡ true) ↔ (length c.seen.unread ≡ 0)) → GaveMessages l (vs ++ v ∷ []) new a next
-  next_message_fed l vs c v t k at h i new a next told b = record {
+  pub next_message_fed : (l : List T) (vs : List V) (c : Course P T S) (v : V) (t : ℕ) (k : Bool) (waiting : ℕ) → GaveMessages l vs c (answers.Accepted v t k) waiting → 0 < t → (new : Course P T S) (a : Answer V UnexpectedParse) (next : ℕ) → AnswersMessage message meaning c.seen.unread new a → next ≡ length c.seen.unread → GaveMessages l (vs ++ v ∷ []) new a next
+  next_message_fed l vs c v t k waiting h i new a next told n = record {
     behind = c.seen.unread;
     divided = subst (DividesMessages message l (vs ++ v ∷ [])) (sym h.told.is.2) (one_more l vs h.behind v t k i h.divided h.told.is.0);
     told = told;
-    boundary = b;
+    number = n;
   }
 
   -- less is left to do

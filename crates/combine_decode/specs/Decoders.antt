@@ -1,5 +1,5 @@
 -- what a decoder is seen as, and what its calls promise
-use Rattle.std.specs.Prelude.{ℕ, ◌+◌, ◌^◌, ◌<◌, ◌≤◌, ◌≡◌, ◌↔◌, List, ◌++◌, Bool, true, length, None, Result, Ok, Err}
+use Rattle.std.specs.Prelude.{ℕ, ◌+◌, ◌<◌, ◌≤◌, ◌≡◌, List, ◌++◌, length, None, Result, Ok, Err}
 use Rattle.combine_base.specs.Parser.Meaning.{Meaning}
 use Rattle.combine_session.specs.Sessions.{Course}
 use Rattle.combine_base.specs.declared.stream.Kind.TheVariants as kinds
@@ -17,7 +17,9 @@ pub record Decoding (Maker Parser Token State : Type 0) : Type 0 where
   pub maker : Maker
   pub course : Course Parser Token State
   pub phase : Phase
-  pub at_boundary : Bool
+  -- how many tokens stand behind the last message, and how many may, with a piece
+  pub waiting : ℕ
+  pub limit : ℕ
 
 -- how far a decoder is after such an end
 abbrev pub phase_after : BatchEnd → Phase
@@ -36,25 +38,28 @@ module _ {F P T R E V S : Type 0} (makes : F → P → Type 0) (meaning : P → 
   pub record DecoderGoesOn (l : List T) (d : Decoding F P T S) : Type 0 where
     pub phase : d.phase ≡ phases.Running
     pub after : After (made_reading meaning (makes d.maker)) meaning l d.course
-    pub boundary : (d.at_boundary ≡ true) ↔ (length l ≡ 0)
-    pub limit : d.course.limit ≡ None
+    pub waiting : d.waiting ≡ length l
+    pub few : d.waiting ≤ d.limit
+    pub session_limit : d.course.limit ≡ None
 
   module _ (old new : Decoding F P T S) (piece : List T) where
     -- all messages of the tokens behind those given before, and how the decoder then stands
     pub record Batches (l : List T) (b : Batch V) : Type 0 where
-      pub gives : GivesMessages (made_reading meaning (makes old.maker)) meaning (l ++ piece) new.course new.at_boundary b
+      pub gives : GivesMessages (made_reading meaning (makes old.maker)) meaning (l ++ piece) new.course new.waiting b
       pub phase : new.phase ≡ phase_after b.end
-      pub limit : new.course.limit ≡ old.course.limit
+      pub few : new.waiting ≤ old.limit
+      pub session_limit : new.course.limit ≡ old.course.limit
 
     pub record Faults : Type 0 where
       pub phase : new.phase ≡ phases.Failed
-      pub boundary : new.at_boundary ≡ old.at_boundary
+      pub waiting : new.waiting ≡ old.waiting
 
+    -- the tokens behind those messages and the piece are within the limit, or that is too long
     abbrev pub decodes : List T → Result (Batch V) DecodeError → Type 0
-    decodes l (Ok b) = (length l + length piece < 2 ^ 64) × Batches l b
-    decodes l (Err (errors.Fault k)) = (length l + length piece < 2 ^ 64) × (k ≡ kinds.Memory) × Faults
-    decodes l (Err errors.TooLong) = (2 ^ 64 ≤ length l + length piece) × (new ≡ old)
-    decodes l (Err errors.Memory) = (length l + length piece < 2 ^ 64) × (new ≡ old)
+    decodes l (Ok b) = (length l + length piece ≤ old.limit) × Batches l b
+    decodes l (Err (errors.Fault k)) = (length l + length piece ≤ old.limit) × (k ≡ kinds.Memory) × Faults
+    decodes l (Err errors.TooLong) = (old.limit < length l + length piece) × (new ≡ old)
+    decodes l (Err errors.Memory) = (length l + length piece ≤ old.limit) × (new ≡ old)
     decodes l (Err errors.Closed) = ⊥
     decodes l (Err errors.Failed) = ⊥
 
@@ -66,4 +71,5 @@ module _ {F P T R E V S : Type 0} (makes : F → P → Type 0) (meaning : P → 
     -- what a call that feeds a piece promises
     pub record Decodes (r : Result (Batch V) DecodeError) : Type 0 where
       pub maker : new.maker ≡ old.maker
+      pub limit : new.limit ≡ old.limit
       pub is : by_phase old.phase r

@@ -1,5 +1,5 @@
 -- messages, one after another, and how a decoder stands
-use Rattle.std.specs.Prelude.{ℕ, ◌<◌, ◌≤◌, ◌≡◌, ◌↔◌, List, [], ◌∷◌, ◌++◌, Bool, true, length, drop, MatchResult, Result}
+use Rattle.std.specs.Prelude.{ℕ, ◌<◌, ◌≤◌, ◌≡◌, List, [], ◌∷◌, ◌++◌, Bool, true, length, drop, MatchResult, Result}
 use Rattle.combine_base.specs.Stream.View.{View}
 use Rattle.combine_base.specs.Parser.Outcome.{Outcome, Accepted, Refused, Undecided}
 use Rattle.combine_base.specs.Parser.Meaning.{Meaning, Reading}
@@ -91,14 +91,14 @@ module _ {T V : Type 0} (message : Reading ℕ T V) where
       pub is_open : c.seen.is_open ≡ true
 
     -- All messages of these tokens, and no others; where more is needed, the session has the tokens behind them.
-    pub record GivesMessages (l : List T) (c : Course P T S) (at : Bool) (b : Batch V) : Type 0 where
+    pub record GivesMessages (l : List T) (c : Course P T S) (waiting : ℕ) (b : Batch V) : Type 0 where
       pub behind : List T
       pub divided : DividesMessages l b.messages.items behind
       pub stop : ends_messages (on_open behind) b.end
       pub refused : refused_at behind c.seen.unread b.end
       pub goes_on : b.end ≡ ends.More → After behind c
-      pub boundary : (at ≡ true) ↔ (length behind ≡ 0)
+      pub number : waiting ≡ length behind
 
     -- the answer of a call that gives them, unless their list finds no memory
-    abbrev pub Drains : (l : List T) (old new : Course P T S) (at : Bool) → Result (Batch V) Kind → Type 0
-    Drains l old new at result = MatchResult result (λ b. GivesMessages l new at b × (new.limit ≡ old.limit)) (λ k. k ≡ kinds.Memory)
+    abbrev pub Drains : (l : List T) (old new : Course P T S) (waiting : ℕ) → Result (Batch V) Kind → Type 0
+    Drains l old new waiting result = MatchResult result (λ b. GivesMessages l new waiting b × (new.limit ≡ old.limit)) (λ k. k ≡ kinds.Memory)

@@ -1,8 +1,9 @@
 //! A decoder of messages, one after another.
-ghost use Rattle.std.specs.Prelude.{◌≡◌, ◌↔◌, [], true, length, None, MatchResult};
+ghost use Rattle.std.specs.Prelude.{◌≡◌, ◌+◌, ◌^◌, ◌<◌, ◌≤◌, [], true, length, nat_eq, None, MatchResult};
 ghost use Rattle.combine_decode.specs.Frames.{frame_of};
 ghost use Rattle.combine_decode.specs.Messages.{After, Drains, IsMade, AnswersMessage, made_reading};
 ghost use Rattle.combine_base.specs.declared.stream.Kind.TheVariants as kinds;
+ghost use Rattle.combine_decode.specs.declared.decode.DecodeError.TheVariants as errors;
 
 mod framing;
 pub mod laws;
@@ -52,7 +53,7 @@ pub struct Batch<V> {
 pub enum DecodeError {
     /// The piece found no room. Nothing has changed.
     Memory,
-    /// The tokens after the last message and the piece would be more than 2^64 - 1. Nothing has changed.
+    /// The tokens after the last message and the piece would be more than the limit. Nothing has changed.
     TooLong,
     /// A fault inside the decoding.
     Fault(Kind),
@@ -75,7 +76,7 @@ pub enum Phase {
 
 /// A decoder of messages that stand one after another in tokens which are fed piece by piece.
 ///
-/// It keeps what is unread, and what its parser has collected, however long a message grows. Against a peer that never ends one, bound what the parser collects, as `count_min_max` does, or loop over a `Session` with a limit.
+/// It keeps what is unread, and what its parser has collected, however long a message grows. Against a peer that never ends one, `with_limit` bounds how many tokens it may have.
 ///
 /// # Examples
 ///
@@ -102,7 +103,10 @@ pub struct Decoder<F: Maker<Output = P>, P: Parser<fed::Stream<T>>, T: Copy + 's
     maker: F,
     session: Session<P, T>,
     phase: Phase,
-    at_boundary: bool,
+    // how many tokens stand after the last message
+    waiting: usize,
+    // how many of them there may be, with a piece
+    limit: usize,
 }
 
 impl<F: Maker<Output = P>, P: Parser<fed::Stream<T>>, T: Copy + 'static> Model
@@ -111,7 +115,7 @@ impl<F: Maker<Output = P>, P: Parser<fed::Stream<T>>, T: Copy + 'static> Model
 
     ghost Value = { Decoding F P T P.PartialState };
 
-    ghost view = { λ d. record { maker = d.maker; course = d.session; phase = d.phase; at_boundary = d.at_boundary } };
+    ghost view = { λ d. record { maker = d.maker; course = d.session; phase = d.phase; waiting = d.waiting; limit = d.limit } };
 }
 
 impl<F: Maker<Output = P>, P: Parser<fed::Stream<T>>, T: Copy + 'static> Decoder<F, P, T> {
@@ -128,10 +132,46 @@ impl<F: Maker<Output = P>, P: Parser<fed::Stream<T>>, T: Copy + 'static> Decoder
     /// # Partial input
     ///
     /// Nothing is parsed yet, not even what is empty: the first result comes with the first piece.
+    ///
+    /// A message may have as many tokens as can be counted, which are 2^64 - 1; `with_limit` sets another limit.
     pub fn new(alloc: Global, maker: F) -> Self
         requires callable { F.callable maker }
         requires lawful { IsMade (F.returns maker) P.lawful }
         ensures maker { result.maker ≡ maker }
+        ensures limit { result.limit + 1 ≡ 2 ^ 64 }
+        ensures stands { DecoderGoesOn F.returns P.meaning [] result }
+    {
+        Self::with_limit(alloc, maker, usize::MAX)
+    }
+
+    /// Returns a decoder as `new` does, after whose last message at most `limit` tokens ever stand: those of the message that isn't complete yet, whether its parser has taken them or not.
+    ///
+    /// A piece is `TooLong` where it and those before it are more, whatever it holds, so a peer that never ends a message can't fill memory. Make it at least the longest message and the longest piece together.
+    ///
+    /// # Examples
+    ///
+    /// ```
+    /// fn second_is_too_long<F: Maker<Output = P> + Drop, P: Parser<fed::Stream<u8>> + Drop>(
+    ///     alloc: Global,
+    ///     maker: F,
+    ///     first: &[u8],
+    ///     second: &[u8],
+    /// ) -> Result<bool, DecodeError>
+    ///     requires callable { F.callable maker }
+    ///     requires lawful { IsMade (F.returns maker) P.lawful }
+    /// {
+    ///     let mut decoder = Decoder::with_limit(alloc, maker, 4);
+    ///     let _batch = decoder.feed(first)?;
+    ///     Ok(matches!(decoder.feed(second), Err(DecodeError::TooLong)))
+    /// }
+    /// ```
+    ///
+    /// With `|| frame(alloc)`, and the pieces `b"\0\x03a"` and `b"b"`, it returns `Ok(false)`; with `b"bc"` as the second, `Ok(true)`.
+    pub fn with_limit(alloc: Global, maker: F, limit: usize) -> Self
+        requires callable { F.callable maker }
+        requires lawful { IsMade (F.returns maker) P.lawful }
+        ensures maker { result.maker ≡ maker }
+        ensures limit { result.limit ≡ limit }
         ensures stands { DecoderGoesOn F.returns P.meaning [] result }
     {
         let session = begin(alloc, &maker);
@@ -140,7 +180,8 @@ impl<F: Maker<Output = P>, P: Parser<fed::Stream<T>>, T: Copy + 'static> Decoder
             maker,
             session,
             phase: Phase::Running,
-            at_boundary: true,
+            waiting: 0,
+            limit,
         }
     }
 
@@ -148,9 +189,9 @@ impl<F: Maker<Output = P>, P: Parser<fed::Stream<T>>, T: Copy + 'static> Decoder
     ///
     /// A `feed` that returns an error leaves it as it was.
     pub fn at_boundary(&self) -> bool
-        ensures { result ≡ self.now.at_boundary }
+        ensures { result ≡ nat_eq self.now.waiting 0 }
     {
-        self.at_boundary
+        self.waiting == 0
     }
 }
 
@@ -166,7 +207,7 @@ impl<F: Maker<Output = P>, P: Parser<fed::Stream<T>> + Drop, T: Copy + 'static> 
     /// An error gives no message, and the piece isn't counted as fed.
     ///
     /// - `Closed` after an end other than `More`, and `Failed` after a fault: each time, and nothing changes.
-    /// - `TooLong` if the tokens after the last message and the piece are more than 2^64 - 1. A shorter piece may follow.
+    /// - `TooLong` if the tokens after the last message and the piece are more than the limit. A shorter piece may follow.
     /// - `Memory` if the piece finds no room. This and those before come before any parsing, in this order, and change nothing: the piece may be fed again.
     /// - `Fault`, of kind `Memory`, if a growth is refused later: the parser's, on this message or on one after it, or that of the list of messages. The messages that the piece completed are let go, and `Failed` follows always.
     ///
@@ -174,13 +215,14 @@ impl<F: Maker<Output = P>, P: Parser<fed::Stream<T>> + Drop, T: Copy + 'static> 
     ///
     /// The end is `More` exactly where the next message is undecided on the tokens after the last one, open. It goes on with the next piece from where it stopped, and what its parser put back is read again then.
     ///
-    /// Each message is given with the piece that decides it. However the tokens are cut, the messages are the same, and so is the end but for how many tokens a refusal counts, where the maker's parsers share one meaning that has one outcome.
+    /// Each message is given with the piece that decides it. However the tokens are cut, there are as many messages, and the same end but for how many tokens a refusal counts, where the maker's parsers share one meaning that has one outcome.
     pub fn feed(&mut self, piece: &[T]) -> Result<Batch<P::Output>, DecodeError>
         requires callable { F.callable self.old.maker }
         requires lawful { IsMade (F.returns self.old.maker) P.lawful }
         ensures { Decodes F.returns P.meaning self.old self.new piece.now result }
     {
         self.phase.check()?;
+        let mut waiting = admit(self.waiting, piece.len(), self.limit)?;
         let answer = match self.session.feed(piece) {
             Ok(answer) => answer,
             Err(SessionError::Memory) => return Err(DecodeError::Memory),
@@ -190,16 +232,15 @@ impl<F: Maker<Output = P>, P: Parser<fed::Stream<T>> + Drop, T: Copy + 'static> 
                 return Err(DecodeError::Fault(Kind::Memory));
             }
         };
-        let mut boundary = self.at_boundary && piece.is_empty();
         match drain(
             self.alloc,
             &self.maker,
             &mut self.session,
             answer,
-            &mut boundary,
+            &mut waiting,
         ) {
             Ok(batch) => {
-                self.at_boundary = boundary;
+                self.waiting = waiting;
                 self.phase = batch.end.phase();
                 Ok(batch)
             }
@@ -223,6 +264,16 @@ impl Phase {
             Phase::Closed => Err(DecodeError::Closed),
             Phase::Failed => Err(DecodeError::Failed),
         }
+    }
+}
+
+/// Returns how many tokens wait with these more, unless that is more than the limit.
+fn admit(waiting: usize, more: usize, limit: usize) -> Result<usize, DecodeError>
+    ensures { MatchResult result (λ all. (all ≡ waiting + more) × (all ≤ limit)) (λ e. (e ≡ errors.TooLong) × (limit < waiting + more)) }
+{
+    match waiting.checked_add(more) {
+        Some(all) if all <= limit => Ok(all),
+        _ => Err(DecodeError::TooLong),
     }
 }
 
@@ -292,20 +343,20 @@ fn drain<F: Maker<Output = P>, P: Parser<fed::Stream<T>> + Drop, T: Copy + 'stat
     maker: &F,
     session: &mut Session<P, T>,
     first: Answer<P::Output, UnexpectedParse>,
-    boundary: &mut bool,
+    waiting: &mut usize,
 ) -> Result<Batch<P::Output>, Kind>
     requires callable { F.callable maker.now }
     requires lawful { IsMade (F.returns maker.now) P.lawful }
     requires is_open { session.old.seen.is_open ≡ true }
-    ensures { (tokens : _) → AnswersMessage (made_reading P.meaning (F.returns maker.now)) P.meaning tokens session.old first → ((boundary.old ≡ true) ↔ (length tokens ≡ 0)) → Drains (made_reading P.meaning (F.returns maker.now)) P.meaning tokens session.old session.new boundary.new result }
+    ensures { (tokens : _) → AnswersMessage (made_reading P.meaning (F.returns maker.now)) P.meaning tokens session.old first → waiting.old ≡ length tokens → Drains (made_reading P.meaning (F.returns maker.now)) P.meaning tokens session.old session.new waiting.new result }
 {
     let mut messages = Vec::new(alloc);
     let mut answer = first;
-    let mut at_boundary = *boundary;
+    let mut behind = *waiting;
     'messages: loop {
         match answer {
             Answer::More => {
-                *boundary = at_boundary;
+                *waiting = behind;
                 return Ok(Batch {
                     messages,
                     end: BatchEnd::More,
@@ -316,7 +367,7 @@ fn drain<F: Maker<Output = P>, P: Parser<fed::Stream<T>> + Drop, T: Copy + 'stat
                 committed,
                 ..
             } => {
-                *boundary = at_boundary;
+                *waiting = behind;
                 return Ok(Batch {
                     messages,
                     end: BatchEnd::Refused { taken, committed },
@@ -324,7 +375,7 @@ fn drain<F: Maker<Output = P>, P: Parser<fed::Stream<T>> + Drop, T: Copy + 'stat
             }
             Answer::Accepted { value, taken, .. } => {
                 if taken == 0 {
-                    *boundary = at_boundary;
+                    *waiting = behind;
                     return Ok(Batch {
                         messages,
                         end: BatchEnd::EmptyMessage,
@@ -333,7 +384,7 @@ fn drain<F: Maker<Output = P>, P: Parser<fed::Stream<T>> + Drop, T: Copy + 'stat
                 if messages.push(value).is_err() {
                     return Err(Kind::Memory);
                 }
-                at_boundary = session.unread().is_empty();
+                behind = session.unread().len();
                 answer = begin_next(maker, session)?;
             }
         }

@@ -1,5 +1,5 @@
 -- the lines of an input that is decoded, piece after piece
-use Rattle.std.proofs.Common.{Bor, ℕ, ◌-◌, map, ◌≡◌, ◌≢◌, ◌+◌, ◌^◌, ◌<◌, ◌≤◌, ◌&&◌, ◌↔◌, ap, sym, subst, refl, ◌∙◌, List, [], ◌∷◌, ◌++◌, length, take, drop, get_or, nat_eq, Bool, true, false, eq-eqb, eqb-true, Option, Result, Ok, Err, MatchResult, inr, arith}
+use Rattle.std.proofs.Common.{Bor, ℕ, zero, suc, ◌-◌, map, ◌≡◌, ◌≢◌, ◌+◌, ◌^◌, ◌<◌, ◌≤◌, ◌&&◌, ap, sym, subst, refl, ◌∙◌, List, [], ◌∷◌, ◌++◌, length, take, drop, get_or, nat_eq, Bool, true, false, eq-eqb, eqb-true, ne_eqb, Option, Result, Ok, Err, MatchResult, inr, arith}
 use Rattle.std.proofs.lemmas.List.{append-nil, drop-map, length-append, length-drop, take_all, take_more, drop_more, take-append-drop}
 use Rattle.std.proofs.KnownBytes.{Appends-nil, Appends-trans}
 use Rattle.std.specs.Global.{Vec}
@@ -20,15 +20,9 @@ use Rattle.feedline_core.specs.declared.fault.Fault.{Fault}
 use Rattle.feedline_core.specs.declared.fault.Fault.TheVariants as faults
 
 -- nothing is there, and nothing behind it
-none_at_all : (at : Bool) (l x : List ℕ) → ((at ≡ true) ↔ (length l ≡ 0)) → (at && nat_eq (length x) 0) ≡ nat_eq (length (l ++ x)) 0
-none_at_all true l x h = let e : length (l ++ x) ≡ length x = (let z = h.0 refl in omega (arith, length-append l x)) in ap (λ n. nat_eq n 0) (sym e)
-none_at_all false l x h = by_test (nat_eq (length (l ++ x)) 0) refl
-  where
-    by_test : (b : Bool) → nat_eq (length (l ++ x)) 0 ≡ b → false ≡ b
-    by_test false e = refl
-    by_test true e =
-        let z = eqb-true (length (l ++ x)) 0 e in
-        h.1 (omega (arith, length-append l x))
+none_at_all : (waiting : ℕ) (l x : List ℕ) → waiting ≡ length l → (nat_eq waiting 0 && nat_eq (length x) 0) ≡ nat_eq (length (l ++ x)) 0
+none_at_all zero l x h = let e : length x ≡ length (l ++ x) = omega (arith, length-append l x) in ap (λ n. nat_eq n 0) e
+none_at_all (suc m) l x h = ap (λ b. b && nat_eq (length x) 0) (ne_eqb (suc m) 0 (omega arith)) ∙ sym (ne_eqb (length (l ++ x)) 0 (omega (arith, length-append l x)))
 
 -- the last line, where these bytes were not fed
 abbrev pub LastLine : Bool → List ℕ → Option (List ℕ) → Option (List ℕ) → Result Bool Fault → Type 0
@@ -69,9 +63,10 @@ module _ {F P R E S : Type 0} (makes : F → P → Type 0) (meaning : P → Mean
       pub messages : List (Vec ℕ)
       pub far : DecoderWasFed makes meaning from fed messages d
       pub lines : Appends old now (message_lines messages)
+      pub limit : d.limit + 1 ≡ 2 ^ 64
 
-    pub no_message_written : (old : Option (List ℕ)) (d : Decoding F P ℕ S) → d.maker ≡ from → DecoderGoesOn makes meaning [] d → WrittenMessages old old [] d
-    no_message_written old d e s = record { messages = []; far = decoder_fed_nothing makes meaning from d e s; lines = Appends-nil old }
+    pub no_message_written : (old : Option (List ℕ)) (d : Decoding F P ℕ S) → d.maker ≡ from → d.limit + 1 ≡ 2 ^ 64 → DecoderGoesOn makes meaning [] d → WrittenMessages old old [] d
+    no_message_written old d e limit s = record { messages = []; far = decoder_fed_nothing makes meaning from d e s; lines = Appends-nil old; limit = limit }
 
     -- in a loop over the pieces, of which the first n were fed
     module _ (law : IsReading (made_reading meaning (makes from))) (pieces : List (List ℕ)) (n : ℕ) (old now : Option (List ℕ)) (d : Decoding F P ℕ S) (w : WrittenMessages old now (concatenated (take n pieces)) d) where
@@ -86,7 +81,7 @@ module _ {F P R E S : Type 0} (makes : F → P → Type 0) (meaning : P → Mean
       room piece k fits = record {
         behind = w.far.behind;
         stands = w.far.stands;
-        fits = (let b = behind_within (made_reading meaning (makes from)) fed w.messages w.far.behind w.far.divided in omega arith);
+        fits = (let b = behind_within (made_reading meaning (makes from)) fed w.messages w.far.behind w.far.divided in let limit = w.limit in omega arith);
       }
 
       module _ (piece : List ℕ) (within : n < length pieces) (at : get_or pieces n piece ≡ piece) where
@@ -113,21 +108,21 @@ module _ {F P R E S : Type 0} (makes : F → P → Type 0) (meaning : P → Mean
             messages = messages;
             far = decoder_goes_on_at makes meaning from law pieces n w.messages d w.far new messages piece within at (record { is = (h.batch, h.decodes, h.is_end ∙ i, refl) });
             lines = lines;
+            limit = ap (λ m. m + 1) h.decodes.limit ∙ w.limit;
           }
 
           -- no further piece is fed, and the last line is written
-          pub lines_end_at : e ≢ ends.More → (last : Option (List ℕ)) (result : Result Bool Fault) → LastLine new.at_boundary rest after last result → DecodesInput (made_reading meaning (makes from)) (concatenated pieces) old last result
+          pub lines_end_at : e ≢ ends.More → (last : Option (List ℕ)) (result : Result Bool Fault) → LastLine (nat_eq new.waiting 0) rest after last result → DecodesInput (made_reading meaning (makes from)) (concatenated pieces) old last result
           lines_end_at i last (Err why) line = record { is = inr line }
           lines_end_at i last (Ok complete) line =
               let message = made_reading meaning (makes from) in
               let g = gives_now makes meaning from fed w.messages d w.far piece new h.batch h.decodes in
               let m : Messages message (fed ++ piece) messages e (length g.behind) = messages_now makes meaning from fed w.messages d w.far piece new h.batch h.decodes law e messages h.is_end refl in
               let k : Messages message (concatenated pieces) messages e (length (m.behind ++ rest)) = subst (λ l. Messages message l messages e (length (m.behind ++ rest))) all_fed (ended_longer message law (fed ++ piece) rest messages e (length g.behind) i m) in
-              let boundary : (new.at_boundary ≡ true) ↔ (length m.behind ≡ 0) = subst (λ n. (new.at_boundary ≡ true) ↔ (n ≡ 0)) m.number g.boundary in
               record {
                 is = (
                   message_lines messages ++ end_line complete,
-                  record { messages = messages; end = e; behind = length (m.behind ++ rest); divided = k; lines = refl; none_behind = line.0 ∙ none_at_all new.at_boundary m.behind rest boundary },
+                  record { messages = messages; end = e; behind = length (m.behind ++ rest); divided = k; lines = refl; none_behind = line.0 ∙ none_at_all new.waiting m.behind rest (g.number ∙ m.number) },
                   Appends-trans old after last (message_lines messages) (end_line complete) lines line.1,
                 );
               }
@@ -140,7 +135,7 @@ module _ {F P R E S : Type 0} (makes : F → P → Type 0) (meaning : P → Mean
         pub room_behind : length (concatenated pieces) < 2 ^ 64 → HasRoom makes meaning d []
         room_behind fits = let e = ap length fed_all in room [] (omega arith) fits
 
-        pub lines_end_after : (new : Decoding F P ℕ S) (after : Option (List ℕ)) (e : BatchEnd) → WritesBatch makes meaning d new [] now after e → (last : Option (List ℕ)) (result : Result Bool Fault) → LastLine new.at_boundary [] after last result → DecodesInput (made_reading meaning (makes from)) (concatenated pieces) old last result
+        pub lines_end_after : (new : Decoding F P ℕ S) (after : Option (List ℕ)) (e : BatchEnd) → WritesBatch makes meaning d new [] now after e → (last : Option (List ℕ)) (result : Result Bool Fault) → LastLine (nat_eq new.waiting 0) [] after last result → DecodesInput (made_reading meaning (makes from)) (concatenated pieces) old last result
         lines_end_after new after e h last (Err why) line = record { is = inr line }
         lines_end_after new after e h last (Ok complete) line =
             let message = made_reading meaning (makes from) in
@@ -153,7 +148,7 @@ module _ {F P R E S : Type 0} (makes : F → P → Type 0) (meaning : P → Mean
             record {
               is = (
                 message_lines messages ++ end_line complete,
-                record { messages = messages; end = e; behind = length g.behind; divided = k; lines = refl; none_behind = line.0 ∙ none_at_all new.at_boundary g.behind [] g.boundary ∙ none },
+                record { messages = messages; end = e; behind = length g.behind; divided = k; lines = refl; none_behind = line.0 ∙ none_at_all new.waiting g.behind [] g.number ∙ none },
                 Appends-trans old after last (message_lines messages) (end_line complete) lines line.1,
               );
             }

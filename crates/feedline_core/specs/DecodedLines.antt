@@ -1,5 +1,5 @@
 -- what is written where an input is decoded, message after message
-use Rattle.std.specs.Prelude.{ℕ, ◌≡◌, ◌+◌, ◌^◌, ◌<◌, ◌⊎◌, List, ◌++◌, length, nat_eq, Bool, Option, Result, Ok, Err}
+use Rattle.std.specs.Prelude.{ℕ, ◌≡◌, ◌+◌, ◌≤◌, ◌⊎◌, List, ◌++◌, length, nat_eq, Bool, Option, Result, Ok, Err}
 use Rattle.std.specs.Global.{Vec}
 use Rattle.std.specs.Io.KnownBytes.{Appends}
 use Rattle.combine_base.specs.Parser.Meaning.{Meaning, Reading}
@@ -45,7 +45,7 @@ module _ {F P R E S : Type 0} (makes : F → P → Type 0) (meaning : P → Mean
   pub record HasRoom (d : Decoding F P ℕ S) (piece : List ℕ) : Type 0 where
     pub behind : List ℕ
     pub stands : DecoderGoesOn makes meaning behind d
-    pub fits : length behind + length piece < 2 ^ 64
+    pub fits : length behind + length piece ≤ d.limit
 
   -- a piece is fed, and the lines of the messages that it completes are written
   pub record WritesBatch (old new : Decoding F P ℕ S) (piece : List ℕ) (before after : Option (List ℕ)) (end : BatchEnd) : Type 0 where

@@ -1,5 +1,5 @@
-use Rattle.std.proofs.Common.{refl, ap, not, nat_eq, length, ◌∙◌, arith, ◌<◌}
-use Rattle.combine_decode.proofs.OneMessage.{by_length, next_message_fed, gives_empty, gives_more, gives_refused, less_to_decode, smaller, messages_start}
+use Rattle.std.proofs.Common.{refl, ap, not, length, ◌∙◌, arith, ◌<◌}
+use Rattle.combine_decode.proofs.OneMessage.{next_message_fed, gives_empty, gives_more, gives_refused, less_to_decode, smaller, messages_start}
 use Rattle.combine_decode.proofs.decode.drain.Goals as goal
 
 pub messages-init : goal.messages-init
@@ -23,5 +23,4 @@ pub messages-preserved : goal.messages-preserved
 messages-preserved g c =
     let i : 0 < c.in-Accepted.taken = omega (arith, c.if-taken-eq0.false) in
     let items = rw (c.is_err.ensures.negation ∙ ap not c.if-is_err.false) at c.push.ensures.items in
-    let empty = c.is_empty-at_boundary.ensures ∙ ap (λ us. nat_eq (length us) 0) c.unread.ensures.unread in
-    record { is_open = c.in_ok-answer-in-Accepted.ensures.0.is_open; limit = c.in_ok-answer-in-Accepted.ensures.1 ∙ c.messages.invariant.limit; far = λ tokens h b. rw items (next_message_fed _ _ tokens _ _ _ _ _ _ (rw c.in-Accepted.is at (c.messages.invariant.far tokens h b)) i _ _ _ c.in_ok-answer-in-Accepted.ensures.0 (by_length _ _ empty)) }
+    record { is_open = c.in_ok-answer-in-Accepted.ensures.0.is_open; limit = c.in_ok-answer-in-Accepted.ensures.1 ∙ c.messages.invariant.limit; far = λ tokens h b. rw items (next_message_fed _ _ tokens _ _ _ _ _ _ (rw c.in-Accepted.is at (c.messages.invariant.far tokens h b)) i _ _ _ c.in_ok-answer-in-Accepted.ensures.0 (ap length c.unread-behind.ensures.unread)) }

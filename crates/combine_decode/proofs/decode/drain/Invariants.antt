@@ -1,4 +1,4 @@
-use Rattle.std.proofs.Common.{◌≡◌, ◌↔◌, true, length, List}
+use Rattle.std.proofs.Common.{◌≡◌, true, length, List}
 use Rattle.combine_decode.specs.Messages.{AnswersMessage, made_reading}
 use Rattle.combine_decode.proofs.OneMessage.{GaveMessages, remaining}
 use Rattle.combine_decode.proofs.decode.drain.Given as goal
@@ -8,7 +8,7 @@ abbrev pub invariant-messages : goal.invariant-messages
 invariant-messages g l = record {
   is_open : l.session.seen.is_open ≡ true;
   limit : l.session.limit ≡ l.fn.session.limit;
-  far : (tokens : List g.row.T.Denot) → AnswersMessage (made_reading g.P.Parser.meaning (g.F.Maker.returns l.maker)) g.P.Parser.meaning tokens l.fn.session l.fn.first → ((l.fn.boundary ≡ true) ↔ (length tokens ≡ 0)) → GaveMessages (made_reading g.P.Parser.meaning (g.F.Maker.returns l.maker)) g.P.Parser.meaning tokens l.messages.items l.session l.answer l.at_boundary;
+  far : (tokens : List g.row.T.Denot) → AnswersMessage (made_reading g.P.Parser.meaning (g.F.Maker.returns l.maker)) g.P.Parser.meaning tokens l.fn.session l.fn.first → l.fn.waiting ≡ length tokens → GaveMessages (made_reading g.P.Parser.meaning (g.F.Maker.returns l.maker)) g.P.Parser.meaning tokens l.messages.items l.session l.answer l.behind;
 }
 
 abbrev pub decreases-messages : goal.decreases-messages
