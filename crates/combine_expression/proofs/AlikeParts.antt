@@ -1,6 +1,6 @@
 -- an expression has one outcome where its operators refuse nothing, and its steps read items that are alike
 use Rattle.std.proofs.Common.{◌≡◌, ◌↔◌, ℕ, Bool, true, false, Option, Some, None, inl, inr, is_none, is_some, List, [], reverse, sym, ◌∙◌, ap, subst, refl}
-use Rattle.combine_base.specs.Parser.Meaning.{Meaning}
+use Rattle.combine_base.specs.Parser.Meaning.{Meaning, Reading}
 use Rattle.combine_base.specs.Parser.Outcome.{Outcome}
 use Rattle.combine_base.specs.Stream.View.{View}
 use Rattle.combine_choice_dispatch.specs.declared.variants.either.Either.{Either}
@@ -75,14 +75,14 @@ module _ {O V : Type 0} where
         ∙ ap (λ (ls : List Fixity). fit ls (shape_of p.operands).slots (shape_of p.operands).held u) k.same_levels
         ∙ ap (λ (s : Shape). fit q.operands.levels s.slots s.held u) k.same_shape
 
-    pub asks_alike : {A B C P T R E U : Type 0} {a : Part O V N → A → Type 0} {b : Part O V N → B → Type 0} {c : Part O V N → C → Type 0} (means : Either A (Either B C) → Meaning P T R E (Item O V) U) → ((x y : A) (f g : Part O V N) → a f x → a g y → (v : View P T) (o : Outcome (Item O V)) → (means (Left x)).whole v o ↔ (means (Left y)).whole v o) → ((x y : B) (f g : Part O V N) → b f x → b g y → (v : View P T) (o : Outcome (Item O V)) → (means (Right (Left x))).whole v o ↔ (means (Right (Left y))).whole v o) → ((x y : C) (f g : Part O V N) → c f x → c g y → (v : View P T) (o : Outcome (Item O V)) → (means (Right (Right x))).whole v o ↔ (means (Right (Right y))).whole v o) → (f g : Part O V N) → PartsAlike f g → (n m : Either A (Either B C)) → asked_either (λ p i. i ≡ awaits p) a (asked_either (λ p i. i ≡ p.in_brackets) b c) f n → asked_either (λ p i. i ≡ awaits p) a (asked_either (λ p i. i ≡ p.in_brackets) b c) g m → (v : View P T) (o : Outcome (Item O V)) → (means n).whole v o ↔ (means m).whole v o
-    asks_alike means h i j f g k (Left x) (Left y) r s = h x y f g r.1 s.1
-    asks_alike means h i j f g k (Right (Left x)) (Right (Left y)) r s = i x y f g r.1.1 s.1.1
-    asks_alike means h i j f g k (Right (Right x)) (Right (Right y)) r s = j x y f g r.1.1 s.1.1
-    asks_alike means h i j f g k (Left x) (Right y) r s = let e = waits_or_not f.operands.held g.operands.held (ap (λ (z : Shape). z.held) k.same_shape) in let l = r.0 in let m = s.0 in absurd (cc)
-    asks_alike means h i j f g k (Right x) (Left y) r s = let e = waits_or_not f.operands.held g.operands.held (ap (λ (z : Shape). z.held) k.same_shape) in let l = r.0 in let m = s.0 in absurd (cc)
-    asks_alike means h i j f g k (Right (Left x)) (Right (Right y)) r s = let e = k.same_brackets in let l = r.1.0 in let m = s.1.0 in absurd (cc)
-    asks_alike means h i j f g k (Right (Right x)) (Right (Left y)) r s = let e = k.same_brackets in let l = r.1.0 in let m = s.1.0 in absurd (cc)
+    pub asks_alike : {A B C P T : Type 0} {a : Part O V N → A → Type 0} {b : Part O V N → B → Type 0} {c : Part O V N → C → Type 0} (whole : Either A (Either B C) → Reading P T (Item O V)) → ((x y : A) (f g : Part O V N) → a f x → a g y → (v : View P T) (o : Outcome (Item O V)) → whole (Left x) v o ↔ whole (Left y) v o) → ((x y : B) (f g : Part O V N) → b f x → b g y → (v : View P T) (o : Outcome (Item O V)) → whole (Right (Left x)) v o ↔ whole (Right (Left y)) v o) → ((x y : C) (f g : Part O V N) → c f x → c g y → (v : View P T) (o : Outcome (Item O V)) → whole (Right (Right x)) v o ↔ whole (Right (Right y)) v o) → (f g : Part O V N) → PartsAlike f g → (n m : Either A (Either B C)) → asked_either (λ p i. i ≡ awaits p) a (asked_either (λ p i. i ≡ p.in_brackets) b c) f n → asked_either (λ p i. i ≡ awaits p) a (asked_either (λ p i. i ≡ p.in_brackets) b c) g m → (v : View P T) (o : Outcome (Item O V)) → whole n v o ↔ whole m v o
+    asks_alike whole h i j f g k (Left x) (Left y) r s = h x y f g r.1 s.1
+    asks_alike whole h i j f g k (Right (Left x)) (Right (Left y)) r s = i x y f g r.1.1 s.1.1
+    asks_alike whole h i j f g k (Right (Right x)) (Right (Right y)) r s = j x y f g r.1.1 s.1.1
+    asks_alike whole h i j f g k (Left x) (Right y) r s = let e = waits_or_not f.operands.held g.operands.held (ap (λ (z : Shape). z.held) k.same_shape) in let l = r.0 in let m = s.0 in absurd (cc)
+    asks_alike whole h i j f g k (Right x) (Left y) r s = let e = waits_or_not f.operands.held g.operands.held (ap (λ (z : Shape). z.held) k.same_shape) in let l = r.0 in let m = s.0 in absurd (cc)
+    asks_alike whole h i j f g k (Right (Left x)) (Right (Right y)) r s = let e = k.same_brackets in let l = r.1.0 in let m = s.1.0 in absurd (cc)
+    asks_alike whole h i j f g k (Right (Right x)) (Right (Left y)) r s = let e = k.same_brackets in let l = r.1.0 in let m = s.1.0 in absurd (cc)
 
 module _ {O V : Type 0} {N : ℕ} (changes : O → V → V → Type 0) (joins : O → V → V → V → Type 0) (refuses_operand : O → V → List ℕ → Type 0) (refuses_operands : O → V → V → List ℕ → Type 0) (never : (o : O) (left : Option V) (right : V) (m : List ℕ) → operator_refuses refuses_operand refuses_operands o left right m → ⊥) where
   abbrev alike : Next (Part O V N) V → Next (Part O V N) V → Type 0
