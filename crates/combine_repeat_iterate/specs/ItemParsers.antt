@@ -164,9 +164,9 @@ module _ {P T R E I N It B C H U : Type 0} (step : P → T → P) (errors : Obse
         let s = sequel_is_single step last_value r (λ b. any_each xs) k (one_follows r xs (each_is_single xs)) in
         record { one = λ v o o' w w'. s.one v o o' (from_any r h xs v o w) (from_any r h xs v o' w') }
 
-    module _ (lawful : N → Type 0) {valid : U → Type 0} (singles : (n : N) → some n → MeansOne valid (means n)) (listed : (xs ys : List I) → lists xs → lists ys → xs ≡ ys) (given : (it : It) (xs ys : List I) → at it xs → at it ys → xs ≡ ys) where
+    module _ (lawful : N → Type 0) {valid : U → Type 0} (singles : (n : N) → some n → MeansOne valid (means n)) (listed : (it : It) × ((xs : List I) → lists xs → at it xs)) (given : (it : It) (xs ys : List I) → at it xs → at it ys → xs ≡ ys) where
       whole_is_single : IsSingle iterated.whole
-      whole_is_single = record { one = λ v o o' w w'. (each_is_single w.0).one v o o' (none, w.2) (none, subst (λ xs. each_item none xs v o') (sym (listed w.0 w'.0 w.1 w'.1)) w'.2) }
+      whole_is_single = record { one = λ v o o' w w'. (each_is_single w.0).one v o o' (none, w.2) (none, subst (λ xs. each_item none xs v o') (sym (given listed.0 w.0 w'.0 (listed.1 w.0 w.1) (listed.1 w'.0 w'.1))) w'.2) }
 
       running_is_single : (l : RunningItem C It N U) (xs : List I) → valid_running (KeptOf lawful means some) valid at l → IsSingle (following l.before.committed unchanged (each_from ((means l.parser).rest l.state) (held l.before.values) xs))
       running_is_single l xs d =

@@ -56,9 +56,9 @@ module _ {It I J : Type 0} (copies : clone.Ghosts J) (iterates : into_iterator.G
   abbrev pub lists : List I → Type 0
   lists = ListsItems n.can_next n.remaining n.next_gives copies.is_clone iterates.into_iter_gives list
 
-  -- it has one list of items
-  abbrev pub ListsOne : Type 0
-  ListsOne = (xs ys : List I) → lists xs → lists ys → xs ≡ ys
+  -- a clone of it has an iterator, so it has one list of items
+  abbrev pub HasIterator : Type 0
+  HasIterator = (clone : J) × (it : It) × copies.is_clone list clone × iterates.into_iter_gives clone it
 
 module _ {I N Input : Type 0} (returns : Lent I → Input → N → Input → Type 0) where
   -- the function may answer this parser for the item

@@ -86,7 +86,7 @@ pub fn between<L, R, P, A>(l: L, r: R, p: P) -> Between<L, R, P, A>
 ///
 /// `f: Fn(P::Output) -> N, N: Parser<Input>`, or a `Function`.
 ///
-/// Every parser that `f` may return has to be lawful. `f` is called once, where `parser` is accepted. The result is committed if one of the two is.
+/// Every parser that `f` may return has to be lawful. `f` is called where `parser` is accepted. The result is committed if one of the two is.
 ///
 /// # Errors
 ///

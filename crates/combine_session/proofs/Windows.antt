@@ -5,10 +5,14 @@ use Rattle.std.proofs.lemmas.List.{append-nil, take-append-drop, take-take, leng
 use Rattle.combine_base.specs.Stream.View.{View, Takes, advanced, after_all, extended}
 use Rattle.combine_base.specs.Parser.Outcome.{Outcome, Accepted, Refused, Undecided, after}
 use Rattle.combine_base.specs.Stream.Advance.{open_follows, advanced_twice, advanced_extended}
-use Rattle.combine_base.specs.Parser.Meaning.{Meaning}
-use Rattle.combine_base.specs.Parser.Answer.{World, CallRecord, Answers, Accepts, Asks, Leaves, asks_or_refuses, loses, fails, peeks}
-use Rattle.combine_base.specs.Parser.DriverAnswers.{answer_to, answer_to_error}
-use Rattle.combine_session.specs.Cuts.{up_to, window_at, on, ParsesWindow}
+use Rattle.combine_base.specs.Error.Errors.{Observers}
+use Rattle.combine_base.specs.Parser.Meaning.{Meaning, refusals_from}
+use Rattle.combine_base.specs.Parser.Answer.{World, CallRecord, Answers, Accepts, Asks, Leaves, asks_or_refuses, loses, fails, peeks, world}
+use Rattle.combine_base.specs.Parser.DriverAnswers.{IsRefusal, answer_to, answer_to_error}
+use Rattle.combine_base.specs.Parser.Reasons.{ReasonedCall}
+use Rattle.combine_session.specs.Cuts.{up_to, window_at, on, RefusesWindow, ParsesWindow}
+use Rattle.combine_base.proofs.Errors.CallErrors.{same_mark}
+use Rattle.combine_base.proofs.Errors.MeantRefusals.{reasoned_meant}
 use Rattle.combine_base.proofs.Parsers.Progress.{after_twice}
 use Rattle.combine_base.specs.declared.stream.Kind.{Kind}
 use Rattle.combine_base.specs.declared.stream.Kind.TheVariants as kinds
@@ -63,7 +67,7 @@ module _ {P T R A S E : Type 0} (w : World P T S E) (m : Meaning P T R E A S) (r
       let e = ap (λ (v : View P T). length v.unread) t.1.rest in
       omega (arith, length-drop t.0 r.old.unread)
 
-module _ {P T R E A S : Type 0} (never_allocates : Type 0) (step : P → T → P) (start : P) (m : Meaning P T R E A S) (whole : List T) where
+module _ {P T R E A S : Type 0} (errors : Observers T R P E) (step : P → T → P) (start : P) (m : Meaning P T R E A S) (whole : List T) where
   -- the place t before the cut c, with a kept state: what is left there means what the whole does
   pub record WindowReached (s : S) (t c : ℕ) : Type 0 where
     pub before : t ≤ c
@@ -93,7 +97,7 @@ module _ {P T R E A S : Type 0} (never_allocates : Type 0) (step : P → T → P
       left = λ x b o p.
           let At : View P T → Type 0 = λ v. m.rest s v o in
           let q = r.left (between ++ x) b o (subst At (wider t x b r.before r.within k) p) in
-          subst (λ us. on never_allocates start m us b (after t false o)) (sym (longer x)) q;
+          subst (λ us. on errors step start m us b (after t false o)) (sym (longer x)) q;
       found = λ x b l. let At : View P T → Type 0 = λ v. m.lost s v in r.found (between ++ x) b (subst At (wider t x b r.before r.within k) l);
     }
 
@@ -101,17 +105,17 @@ module _ {P T R E A S : Type 0} (never_allocates : Type 0) (step : P → T → P
     same_window : (b : Bool) → extended [] b (window_at step start whole t c true) ≡ window_at step start whole t c b
     same_window b = ap (λ us. record (window_at step start whole t c b) { unread = us }) (append-nil (drop t (take c whole)))
 
-    window_outcome : (b : Bool) (o : Outcome A) → m.rest s (window_at step start whole t c b) o → on never_allocates start m (take c whole) b (after t false o)
+    window_outcome : (b : Bool) (o : Outcome A) → m.rest s (window_at step start whole t c b) o → on errors step start m (take c whole) b (after t false o)
     window_outcome b o p =
         let At : View P T → Type 0 = λ v. m.rest s v o in
-        subst (λ us. on never_allocates start m us b (after t false o)) (append-nil (take c whole)) (r.left [] b o (subst At (sym (same_window b)) p))
+        subst (λ us. on errors step start m us b (after t false o)) (append-nil (take c whole)) (r.left [] b o (subst At (sym (same_window b)) p))
 
     window_found : (b : Bool) → m.lost s (window_at step start whole t c b) → ⊥
     window_found b l = let At : View P T → Type 0 = λ v. m.lost s v in r.found [] b (subst At (sym (same_window b)) l)
 
-    module _ (counts_failures : Type 0) (kind : E → Kind) (fresh : S → Type 0) (left : S) (more : Bool) (new : View P T) (f : Failures) where
-      abbrev world : World P T S E
-      world = record { step = step; kind = kind; never_allocates = never_allocates; counts_failures = counts_failures; fresh = fresh }
+    module _ (counts_failures : Type 0) (fresh : S → Type 0) (left : S) (more : Bool) (new : View P T) (f : Failures) where
+      abbrev around : World P T S E
+      around = world step errors counts_failures fresh
 
       abbrev run : CallRecord P T S
       run = record { first = false; state = s; left = left; old = window_at step start whole t c more; new = new; before = f; after = f }
@@ -128,7 +132,7 @@ module _ {P T R E A S : Type 0} (never_allocates : Type 0) (step : P → T → P
           omega arith
 
       -- the call asked for more: it has come to a later place before the same cut
-      asked : (taken : ℕ) → taken + length new.unread ≡ c → Asks world m run → WindowReached left taken c
+      asked : (taken : ℕ) → taken + length new.unread ≡ c → Asks around m run → WindowReached left taken c
       asked taken e p =
           let n = place_after p.count taken p.taken e in
           let u : (x : List T) (b : Bool) → extended x b (window_at step start whole taken c true) ≡ extended x b new = λ x b. ap (λ i. extended x b (window_at step start whole i c true)) n ∙ ap (extended x b) (sym (advanced_twice step t p.count (up_to start whole c true))) ∙ ap (extended x b) (sym p.taken.rest) in
@@ -146,42 +150,45 @@ module _ {P T R E A S : Type 0} (never_allocates : Type 0) (step : P → T → P
       module _ (taken : ℕ) (e : taken + length new.unread ≡ c) where
         -- what one window answers
         abbrev pub IsWindowAnswer : Result (Answer A E) Kind → Type 0
-        IsWindowAnswer (Ok answers.More) = (more ≡ true) × on never_allocates start m (take c whole) more Undecided × WindowReached left taken c
-        IsWindowAnswer (Ok (answers.Accepted value n committed)) = on never_allocates start m (take c whole) more (Accepted value n committed)
-        IsWindowAnswer (Ok (answers.Refused error n committed)) = on never_allocates start m (take c whole) more (Refused committed) × (n ≤ c)
-        IsWindowAnswer (Err k) = (k ≡ kinds.Memory) × (never_allocates → m.heapless → ⊥)
+        IsWindowAnswer (Ok answers.More) = (more ≡ true) × on errors step start m (take c whole) more Undecided × WindowReached left taken c
+        IsWindowAnswer (Ok (answers.Accepted value n committed)) = on errors step start m (take c whole) more (Accepted value n committed)
+        IsWindowAnswer (Ok (answers.Refused error n committed)) = on errors step start m (take c whole) more (Refused committed) × (n ≤ c) × RefusesWindow errors step start m whole error committed
+        IsWindowAnswer (Err k) = (k ≡ kinds.Memory) × (errors.never_allocates → m.heapless → ⊥)
 
-        accepted : (a : A) (k : Bool) → Accepts world m run a k → on never_allocates start m (take c whole) more (Accepted a taken k)
-        accepted a k p = subst (λ n. on never_allocates start m (take c whole) more (Accepted a n k)) (sym (place_after p.count taken p.taken e)) (window_outcome more (Accepted a p.count k) p.meant)
+        accepted : (a : A) (k : Bool) → Accepts around m run a k → on errors step start m (take c whole) more (Accepted a taken k)
+        accepted a k p = subst (λ n. on errors step start m (take c whole) more (Accepted a n k)) (sym (place_after p.count taken p.taken e)) (window_outcome more (Accepted a p.count k) p.meant)
 
-        at_end : (x : E) (b : Bool) → more ≡ b → asks_or_refuses world m run b → IsWindowAnswer (answer_to_error x b taken kinds.End)
-        at_end x true i p = (i, window_outcome more Undecided p.meant, asked taken e p)
-        at_end x false i p = (window_outcome more (Refused true) p.meant, omega arith)
+        at_end : (x : E) (b : Bool) → more ≡ b → asks_or_refuses around m run b → (IsRefusal more kinds.End → RefusesWindow errors step start m whole x true) → IsWindowAnswer (answer_to_error x b taken kinds.End)
+        at_end x true i p q = (i, window_outcome more Undecided p.meant, asked taken e p)
+        at_end x false i p q = (window_outcome more (Refused true) p.meant, omega arith, q (rw i tt))
 
-        failed : (x : E) (k : Kind) → fails world m run k → IsWindowAnswer (answer_to_error x more taken k)
-        failed x kinds.Refused p = (window_outcome more (Refused true) p.meant, omega arith)
-        failed x kinds.End p = at_end x more refl p
-        failed x kinds.Memory p = (refl, p.0)
-        failed x kinds.Read p = absurd (let a = p.0 in omega arith)
-        failed x kinds.Reset p = absurd (let a = p.0 in omega arith)
-        failed x kinds.Lost p = absurd (window_found more p.0)
+        failed : (x : E) (k : Kind) → fails around m run k → (IsRefusal more k → RefusesWindow errors step start m whole x true) → IsWindowAnswer (answer_to_error x more taken k)
+        failed x kinds.Refused p q = (window_outcome more (Refused true) p.meant, omega arith, q tt)
+        failed x kinds.End p q = at_end x more refl p q
+        failed x kinds.Memory p q = (refl, p.0)
+        failed x kinds.Read p q = absurd (let a = p.0 in omega arith)
+        failed x kinds.Reset p q = absurd (let a = p.0 in omega arith)
+        failed x kinds.Lost p q = absurd (window_found more p.0)
 
-        peeked : (k : Kind) → peeks world m run k → on never_allocates start m (take c whole) more (Refused false)
-        peeked kinds.Refused p = window_outcome more (Refused false) p.meant
-        peeked kinds.End p = window_outcome more (Refused false) p.1.meant
+        peeked : (k : Kind) → peeks around m run k → on errors step start m (take c whole) more (Refused false) × IsRefusal more k
+        peeked kinds.Refused p = (window_outcome more (Refused false) p.meant, tt)
+        peeked kinds.End p = (window_outcome more (Refused false) p.1.meant, rw p.0 tt)
         peeked kinds.Memory p = absurd p
         peeked kinds.Read p = absurd p
         peeked kinds.Reset p = absurd p
         peeked kinds.Lost p = absurd p
 
-        judging : (p : ParseResult A E) → Answers world m run p → IsWindowAnswer (answer_to kind more taken p)
-        judging (CommitOk a) h = accepted a true h.is
-        judging (PeekOk a) h = accepted a false h.is
-        judging (CommitErr x) h = failed x (kind x) h.is
-        judging (PeekErr x) h = (peeked (kind x.error) h.is, omega arith)
+        refused : (x : E) (k : Bool) → IsRefusal more (errors.kind x) → refusals_from m s run.old new k x → RefusesWindow errors step start m whole x k
+        refused x k i p = record { state = s; from = t; to = c; more = more; left = new; kind = i; is = p }
 
-    pub window_judged : (counts_failures : Type 0) (kind : E → Kind) (fresh : S → Type 0) (left : S) (more : Bool) (taken : ℕ) (result : Result (Answer A E) Kind) (p : ParsesWindow never_allocates counts_failures step kind fresh start m s left whole t c more taken result) → IsWindowAnswer counts_failures kind fresh left more p.new p.failures taken p.place result
-    window_judged counts_failures kind fresh left more taken result p = subst (IsWindowAnswer counts_failures kind fresh left more p.new p.failures taken p.place) (sym p.is) (judging counts_failures kind fresh left more p.new p.failures taken p.place p.parsed p.answers)
+        judging : (p : ParseResult A E) → Answers around m run p → ReasonedCall errors m false s run.old new p → IsWindowAnswer (answer_to errors.kind more taken p)
+        judging (CommitOk a) h r = accepted a true h.is
+        judging (PeekOk a) h r = accepted a false h.is
+        judging (CommitErr x) h r = failed x (errors.kind x) h.is (λ i. refused x true i (reasoned_meant h r true x (record { is = (refl, rw (same_mark around m run x h) i) })))
+        judging (PeekErr x) h r = let q = peeked (errors.kind x.error) h.is in (q.0, omega arith, refused x.error false q.1 (reasoned_meant h r false x.error (record { is = refl })))
+
+    pub window_judged : (counts_failures : Type 0) (fresh : S → Type 0) (left : S) (more : Bool) (taken : ℕ) (result : Result (Answer A E) Kind) (p : ParsesWindow errors counts_failures step fresh start m s left whole t c more taken result) → IsWindowAnswer counts_failures fresh left more p.new p.failures taken p.place result
+    window_judged counts_failures fresh left more taken result p = subst (IsWindowAnswer counts_failures fresh left more p.new p.failures taken p.place) (sym p.is) (judging counts_failures fresh left more p.new p.failures taken p.place p.parsed p.answers p.refuses)
 
 -- a window, by the position behind what stands before it
 pub widened : {P T : Type 0} (step : P → T → P) (start : P) (whole : List T) (from to index : ℕ) (more : Bool) (old : View P T) (position behind : P) → old ≡ record { position = position; unread = drop index (take to whole); is_open = more } → position ≡ behind → index ≡ from → from ≤ to → after_all step start (take from whole) ≡ behind → old ≡ window_at step start whole from to more
@@ -223,6 +230,6 @@ window_left w m r start whole from to more result e h l p =
     )
 
 -- a parsed window
-pub parsed_window : {P T R A S E : Type 0} (never_allocates counts_failures : Type 0) (step : P → T → P) (kind : E → Kind) (fresh : S → Type 0) (start : P) (m : Meaning P T R E A S) (s left : S) (whole : List T) (from to : ℕ) (more : Bool) (taken k : ℕ) (old new : View P T) (f g : Failures) (parsed : ParseResult A E) (result : Result (Answer A E) Kind) → old ≡ window_at step start whole from to more → f ≡ g → IsLaterPlace step start whole from to more new k → taken ≡ k → result ≡ answer_to kind new.is_open taken parsed → Answers (record { step = step; kind = kind; never_allocates = never_allocates; counts_failures = counts_failures; fresh = fresh }) m (record { first = false; state = s; left = left; old = old; new = new; before = f; after = g }) parsed → ParsesWindow never_allocates counts_failures step kind fresh start m s left whole from to more taken result
-parsed_window never_allocates counts_failures step kind fresh start m s left whole from to more taken k old new f g parsed result e i u t j p =
-    record { new = new; failures = g; parsed = parsed; place = let a = u.left in omega arith; is = j ∙ ap (λ b. answer_to kind b taken parsed) u.is_open; answers = rw (← e) (rw i at p) }
+pub parsed_window : {P T R A S E : Type 0} (errors : Observers T R P E) (counts_failures : Type 0) (step : P → T → P) (fresh : S → Type 0) (start : P) (m : Meaning P T R E A S) (s left : S) (whole : List T) (from to : ℕ) (more : Bool) (taken k : ℕ) (old new : View P T) (f g : Failures) (parsed : ParseResult A E) (result : Result (Answer A E) Kind) → old ≡ window_at step start whole from to more → f ≡ g → IsLaterPlace step start whole from to more new k → taken ≡ k → result ≡ answer_to errors.kind new.is_open taken parsed → Answers (world step errors counts_failures fresh) m (record { first = false; state = s; left = left; old = old; new = new; before = f; after = g }) parsed → ReasonedCall errors m false s old new parsed → ParsesWindow errors counts_failures step fresh start m s left whole from to more taken result
+parsed_window errors counts_failures step fresh start m s left whole from to more taken k old new f g parsed result e i u t j p r =
+    record { new = new; failures = g; parsed = parsed; place = let a = u.left in omega arith; is = j ∙ ap (λ b. answer_to errors.kind b taken parsed) u.is_open; answers = rw (← e) (rw i at p); refuses = rw (← e) r }

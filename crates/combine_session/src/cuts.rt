@@ -96,7 +96,7 @@ fn parse_window<S: Windowed, P: Parser<MaybePartialStream<S::Located>>>(
 ///
 /// # Errors
 ///
-/// The one fault is `Memory`.
+/// The one fault is `Memory`. The error of a refusal is the parser's on the window that decided; a peeked one is not explained.
 ///
 /// # Partial input
 ///
@@ -127,7 +127,7 @@ pub fn parse_cuts<S: Windowed, P: Parser<MaybePartialStream<S::Located>>>(
     ensures lawful { P.lawful parser.new }
     ensures same { MeansSame (P.meaning parser.old) (P.meaning parser.new) }
     ensures single { P.determined parser.old → IsSingle (P.meaning parser.old).whole }
-    ensures runs { RunsCuts S.Located.Error.observers.never_allocates (S.DefaultPositioned.whole whole).position (P.meaning parser.old) (S.DefaultPositioned.whole whole).unread (length cuts.now) (λ i. S.index whole (get_or cuts.now i 0)) result }
+    ensures runs { RunsCuts S.Located.Error.observers S.Located.StreamOnce.step (S.DefaultPositioned.whole whole).position (P.meaning parser.old) (S.DefaultPositioned.whole whole).unread (length cuts.now) (λ i. S.index whole (get_or cuts.now i 0)) result }
 {
     let mut state = P::PartialState::default();
     let stream = Stream::new(whole);

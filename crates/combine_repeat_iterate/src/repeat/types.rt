@@ -1,6 +1,6 @@
 //! The parser of `iterate`, and its state.
 ghost use Rattle.combine_base.specs.Parser.KeptParsers.{KeptOf};
-ghost use Rattle.combine_repeat_iterate.specs.ListedItems.{AskedFor, AskedLeavesStream, ListsOne, MayAskAlways, any_of, item_asker, iterator_gives, gives_one, items_part, lists};
+ghost use Rattle.combine_repeat_iterate.specs.ListedItems.{AskedFor, AskedLeavesStream, HasIterator, MayAskAlways, any_of, item_asker, iterator_gives, gives_one, items_part, lists};
 ghost use Rattle.combine_repeat_iterate.specs.ItemParsers.{ItemAnswersOne, iterated, iterated_is_meaning, iterated_means_one, items_start_valid, valid_item};
 
 use super::items::{CollectedItems, Item, parse_item, resume_item};
@@ -44,7 +44,7 @@ where
 
     ghost lawful = { λ p. MayAskAlways (F.callable (item_asker p)) × AskedLeavesStream (F.returns (item_asker p)) Input.view Input.marks Input.failures × ((a : _) (n : _) → AskedFor (F.returns (item_asker p)) a n → N.lawful n) × ((is : _) × lists J.Clone J.IntoIterator J.IntoIter.Iterator (items_part p) is) };
 
-    ghost determined = { λ p. ItemAnswersOne (AskedFor (F.returns (item_asker p))) (λ n. (N.meaning n).whole) × ((n : N) → any_of Input.StreamOnce F.MutFunction N.lawful n → N.determined n) × ListsOne J.Clone J.IntoIterator J.IntoIter.Iterator (items_part p) };
+    ghost determined = { λ p. ItemAnswersOne (AskedFor (F.returns (item_asker p))) (λ n. (N.meaning n).whole) × ((n : N) → any_of Input.StreamOnce F.MutFunction N.lawful n → N.determined n) × HasIterator J.Clone J.IntoIterator J.IntoIter.Iterator (items_part p) };
 
     ghost valid = { valid_item (KeptOf N.lawful N.meaning (any_of Input.StreamOnce F.MutFunction N.lawful)) N.valid (iterator_gives J.IntoIter.Iterator) };
 
@@ -56,7 +56,7 @@ where
 
     ghost laws = { λ p l. iterated_is_meaning Input.step Input.Error.observers _ _ N.meaning C.held C.none C.more _ _ _ N.lawful N.laws l.2 };
 
-    ghost single = { λ p l d. iterated_means_one Input.step Input.Error.observers _ _ N.meaning C.held C.none C.more _ _ _ d.0 N.lawful (λ n i. N.single n (i.all i.item n i.answered) (d.1 n i)) d.2 (gives_one J.IntoIter.can_next J.IntoIter.remaining J.IntoIter.next_gives) };
+    ghost single = { λ p l d. iterated_means_one Input.step Input.Error.observers _ _ N.meaning C.held C.none C.more _ _ _ d.0 N.lawful (λ n i. N.single n (i.all i.item n i.answered) (d.1 n i)) (d.2.1, λ xs l. l.each d.2.0 d.2.1 d.2.2 d.2.3) (gives_one J.IntoIter.can_next J.IntoIter.remaining J.IntoIter.next_gives) };
 
     fn parse_mode<M: ParseMode>(
         &mut self,

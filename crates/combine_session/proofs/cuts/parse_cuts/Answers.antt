@@ -39,7 +39,7 @@ returns-in_err-answer-clause-runs g c =
     let fit = fits_in_tokens _ _ _ _ (g.met.S.Windowed.rises c.args.whole) c.requires.fit in
     let p = window_same c.loop-cut.invariant.same c.parse_window-next.ensures.parses in
     let e = err_from_is_err_and c.from_residual.result c.from_residual.ensures.1 in
-    rw (e.1, e.2) (stops_by _ _ _ _ _ _ _ law fit _ _ _ c.loop-cut.invariant.so_far c.loop-cut-test.true _ _ _ _ _ _ _ c.in_err-answer.was p)
+    rw (e.1, e.2) (stops_by _ _ _ _ _ _ _ law fit _ _ _ c.loop-cut.invariant.so_far c.loop-cut-test.true _ _ _ _ _ _ c.in_err-answer.was p)
 
 pub returns-in_default : goal.returns-in_default
 returns-in_default g c =
@@ -50,7 +50,7 @@ returns-in_default g c =
       lawful = c.parse_window-next.ensures.lawful;
       same = same_more _ _ _ c.loop-cut.invariant.same c.parse_window-next.ensures.same;
       single = λ d. (g.met.P.Parser.single _ c.requires.lawful d).whole;
-      runs = decided_at_cut _ _ _ _ _ _ _ law fit _ _ _ c.loop-cut.invariant.so_far c.loop-cut-test.true _ _ _ _ _ c.loop-cut.asked c.loop-cut.invariant.asked _ _ c.in_default.not-More c.in_ok-answer.was p;
+      runs = decided_at_cut _ _ _ _ _ _ _ law fit _ _ _ c.loop-cut.invariant.so_far c.loop-cut-test.true _ _ _ _ c.loop-cut.asked c.loop-cut.invariant.asked _ _ c.in_default.not-More c.in_ok-answer.was p;
     }
 
 pub loop-cut-preserved : goal.loop-cut-preserved
@@ -66,7 +66,7 @@ loop-cut-preserved g c =
       place = c.parse_window-next.ensures.place;
       index = c.parse_window-next.ensures.index;
       position = c.parse_window-next.ensures.position;
-      so_far = asked_at_cut _ _ _ _ _ _ _ law fit _ _ _ c.loop-cut.invariant.so_far c.loop-cut-test.true _ _ _ _ _ _ (c.in_ok-answer.was ∙ ap Ok c.in-More.is) p;
+      so_far = asked_at_cut _ _ _ _ _ _ _ law fit _ _ _ c.loop-cut.invariant.so_far c.loop-cut-test.true _ _ _ _ _ (c.in_ok-answer.was ∙ ap Ok c.in-More.is) p;
     }
 
 pub parse_window-run-requires-clause-to : goal.parse_window-run-requires-clause-to
@@ -88,7 +88,7 @@ returns-in_err-parsed-clause-runs g c =
     let fit = fits_in_tokens _ _ _ _ (g.met.S.Windowed.rises c.args.whole) c.requires.fit in
     let p = window_same c.loop-cut.invariant.same c.parse_window-run.ensures.parses in
     let e = err_from_is_err_and c.from_residual-in_err-parsed.result c.from_residual-in_err-parsed.ensures.1 in
-    rw (e.1, e.2) (ends_by _ _ _ _ _ _ _ law fit _ _ c.loop-cut.cut-index (omega arith) c.loop-cut.invariant.so_far _ _ _ _ _ _ _ c.in_err-parsed.was (rw c.end-end.ensures.all at p))
+    rw (e.1, e.2) (ends_by _ _ _ _ _ _ _ law fit _ _ c.loop-cut.cut-index (omega arith) c.loop-cut.invariant.so_far _ _ _ _ _ _ c.in_err-parsed.was (rw c.end-end.ensures.all at p))
 
 pub returns-clause-runs : goal.returns-clause-runs
 returns-clause-runs g c =
@@ -96,7 +96,7 @@ returns-clause-runs g c =
     let fit = fits_in_tokens _ _ _ _ (g.met.S.Windowed.rises c.args.whole) c.requires.fit in
     let p = window_same c.loop-cut.invariant.same c.parse_window-run.ensures.parses in
     let all : c.loop-cut.cut-index ≡ length c.args.cuts.now = omega arith in
-    decided_after_cuts _ _ _ _ _ _ _ law fit _ _ c.loop-cut.cut-index (omega arith) c.loop-cut.invariant.so_far _ _ _ _ _ all c.loop-cut.asked c.loop-cut.invariant.asked _ _ c.in_ok-parsed.was (rw c.end-end.ensures.all at p)
+    decided_after_cuts _ _ _ _ _ _ _ law fit _ _ c.loop-cut.cut-index (omega arith) c.loop-cut.invariant.so_far _ _ _ _ all c.loop-cut.asked c.loop-cut.invariant.asked _ _ c.in_ok-parsed.was (rw c.end-end.ensures.all at p)
 
 pub returns-in_err-answer-clause-single : goal.returns-in_err-answer-clause-single
 returns-in_err-answer-clause-single g c = λ d. (g.met.P.Parser.single _ c.requires.lawful d).whole

@@ -12,5 +12,5 @@ invariant-loop-cut g l = record {
   place : g.S.Windowed.places l.fn.whole l.run.place;
   index : g.S.Windowed.index l.fn.whole l.run.place ≡ l.run.taken;
   position : (g.S.Located.StreamOnce.view l.run.stream.0).position ≡ g.S.DefaultPositioned.behind l.fn.whole l.run.taken;
-  so_far : AskedAtCuts g.S.Located.Error.ParseError.observers.never_allocates g.S.Located.StreamOnce.step (g.S.DefaultPositioned.whole l.fn.whole).position (g.P.Parser.meaning l.fn.parser) (g.S.DefaultPositioned.whole l.fn.whole).unread (length l.fn.cuts) (λ i. g.S.Windowed.index l.fn.whole (get_or l.fn.cuts i 0)) l.state l.run.taken l.cut-index;
+  so_far : AskedAtCuts g.S.Located.Error.ParseError.observers g.S.Located.StreamOnce.step (g.S.DefaultPositioned.whole l.fn.whole).position (g.P.Parser.meaning l.fn.parser) (g.S.DefaultPositioned.whole l.fn.whole).unread (length l.fn.cuts) (λ i. g.S.Windowed.index l.fn.whole (get_or l.fn.cuts i 0)) l.state l.run.taken l.cut-index;
 }

@@ -42,4 +42,4 @@ returns-clause-parses g c =
     let e = widened g.S.Located.StreamOnce.step whole.position whole.unread from to _ c.args.is_open _ _ _ (ap (marked c.args.is_open) c.window.ensures) (c.position-position.ensures ∙ c.requires.position) i l (g.met.S.DefaultPositioned.counts c.args.whole from (omega arith)) in
     let left = window_left _ _ _ whole.position whole.unread from to c.args.is_open _ e bounds.1 l c.parse_partial-parsed.ensures.answers in
     let placed = c.place_before-place.ensures left.0 left.1.within left.1.unread in
-    parsed_window _ _ _ _ _ _ _ _ _ _ _ _ _ _ left.0 _ _ _ _ _ _ e (g.met.S.Windowed.never_fails _ _) left.1 (let k = placed.2 in let n = c.count_to-taken.ensures in omega arith) c.judge-answer.ensures c.parse_partial-parsed.ensures.answers
+    parsed_window _ _ _ _ _ _ _ _ _ _ _ _ _ left.0 _ _ _ _ _ _ e (g.met.S.Windowed.never_fails _ _) left.1 (let k = placed.2 in let n = c.count_to-taken.ensures in omega arith) c.judge-answer.ensures c.parse_partial-parsed.ensures.answers c.parse_partial-parsed.ensures.refuses
