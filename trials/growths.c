@@ -1,4 +1,4 @@
-// Stands in front of the allocator of a program of tests. Where REFUSED names a file, growths are refused, each to a copy of the process, which goes on from there, and says in that file what it has to say. Behind it stands how the copy ended. Then the process itself grows, and goes on. The first thousand are refused, then each tenth, from ten thousand on each hundredth, and so on.
+// Stands in front of the allocator of a program of tests. Where REFUSED names a file, growths are refused, each to a copy of the process, which goes on from there, and says in that file what it has to say, the first 64 KiB of it. Behind it stands how the copy ended. Then the process itself grows, and goes on. The first thousand are refused, then each tenth, from ten thousand on each hundredth, and so on.
 #include <fcntl.h>
 #include <stdio.h>
 #include <stdlib.h>
@@ -23,10 +23,12 @@ static int refuses(void) {
     int status = -1;
     pid_t copy = fork();
     if (copy == 0) {
+        setrlimit(RLIMIT_CPU, &(struct rlimit){60, 60});
+        rlim_t most = lseek(said, 0, SEEK_END) + 65536;
+        setrlimit(RLIMIT_FSIZE, &(struct rlimit){most, most});
         dup2(said, 1);
         dup2(said, 2);
         said = -1;
-        setrlimit(RLIMIT_CPU, &(struct rlimit){60, 60});
         return 1;
     }
     if (copy > 0) waitpid(copy, &status, 0);
