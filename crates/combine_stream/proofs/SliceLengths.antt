@@ -1,5 +1,5 @@
 -- positions that say how much is left, after some tokens
-use Rattle.std.proofs.Common.{ℕ, zero, suc, ◌+◌, ◌-◌, ◌≤◌, ◌≡◌, List, [], ◌∷◌, take, drop, length, arith, ap, refl, ◌∙◌}
+use Rattle.std.proofs.Common.{ℕ, zero, suc, ◌+◌, ◌-◌, ◌≤◌, ◌≡◌, List, [], ◌∷◌, take, length, arith, ap, refl, ◌∙◌}
 use Rattle.combine_base.specs.Stream.View.{View, Ahead, after_all}
 use Rattle.combine_stream.specs.Range.Ranges.{size_of, IsItemPlace, size_take}
 use Rattle.combine_base.specs.declared.stream.slices.Left.{Left}
