@@ -89,5 +89,6 @@ module _ {T : Type 0} (l l' : TokenList T) (h : IsListWithin l l') where
     matched = matched_within n p.count v.unread p.matched;
     stops = stops_within (n + p.count) v.is_open (drop p.count v.unread) p.stops;
     commits = p.commits;
+    back = p.back;
     says = p.says;
   }

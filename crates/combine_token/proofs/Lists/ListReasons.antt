@@ -1,6 +1,6 @@
 -- the error of a refusal where a match stops
-use Rattle.std.proofs.Common.{ℕ, Option, ◌≡◌, ◌⊎◌, inl, inr, List, drop, Bool, true, false, nat_lt, refl, ap, subst, ◌∙◌}
-use Rattle.combine_base.specs.Stream.View.{View}
+use Rattle.std.proofs.Common.{ℕ, Option, ◌≡◌, ◌⊎◌, inl, inr, List, drop, Bool, true, false, nat_lt, refl, ap, arith, ltb-false, sym, subst, ◌∙◌}
+use Rattle.combine_base.specs.Stream.View.{View, advanced}
 use Rattle.combine_base.specs.Stream.Calls.{TakesToken, no_token}
 use Rattle.combine_base.specs.Error.Items.{ErrorItem}
 use Rattle.combine_base.specs.Error.Errors.{Observers, New}
@@ -14,13 +14,14 @@ use Rattle.combine_base.specs.declared.stream.Kind.TheVariants as kinds
 use Rattle.combine_base.specs.declared.stream.Failures.{Failures}
 use Rattle.combine_base.specs.declared.error.ParseResult.{ParseResult}
 use Rattle.combine_base.specs.declared.error.ParseResult.TheVariants.{CommitOk, PeekOk, CommitErr, PeekErr}
-use Rattle.combine_token.specs.Token.Lists.ListAnswers.{AcceptsList, FindsNone, Mismatch}
+use Rattle.combine_token.specs.Token.Lists.ListAnswers.{AcceptsList, FindsNone, Mismatch, PutsBackList}
 use Rattle.combine_token.specs.Token.TokenReasons.{RefusesList, SaysEnded, begins_at_item, peeked_only, refuses_next}
 use Rattle.combine_token.specs.Token.Lists.TokenLists.{TokenList, mismatch_at}
 use Rattle.combine_token.specs.Token.Lists.ListMeaning.{token_list}
 use Rattle.combine_token.proofs.Lists.ListAnswers.{stops_at_end, stops_at_token}
 use Rattle.combine_token.proofs.Lists.Matches.{Arrived}
-use Rattle.combine_base.proofs.Errors.CallReasons.{reasons_ok, reasons_peek_ok, reasons_committed, reasons_fault, reasons_into}
+use Rattle.combine_base.proofs.Errors.CallReasons.{reasons_ok, reasons_peek_ok, reasons_committed, reasons_fault, reasons_into, reasons_peeked}
+use Rattle.combine_base.proofs.Errors.Explanations.{reason_peeked}
 
 -- a clone that finds no memory is no refusal
 pub accepted_reasons : {V E : Type 0} (kind : E → Kind) (is_open : Bool) (says : Bool → E → Type 0) (gives : V → Type 0) (infallible : Type 0) (committed : Bool) (result : ParseResult V E) → AcceptsList kind gives infallible committed result → Reasoned kind is_open says result
@@ -37,8 +38,8 @@ module _ {P T R V S E : Type 0} (w : World P T S E) (s : Observers T R P E) (l :
   same_rest : now.unread ≡ drop q.progress.count old.unread
   same_rest = ap (λ (v : View P T). v.unread) q.progress.taken.rest
 
-  refused_there : (committed : Bool) (e : E) → mismatch_at l n now.is_open now.unread → committed ≡ nat_lt 0 n → refuses_next s old.position expected now.unread committed e → says committed e
-  refused_there committed e k i r = record {
+  refused_there : (committed : Bool) (e : E) → mismatch_at l n now.is_open now.unread → committed ≡ nat_lt 0 n → (committed ≡ false → new ≡ old) → refuses_next s old.position expected now.unread committed e → says committed e
+  refused_there committed e k i b r = record {
     count = q.progress.count;
     has = subst l.has q.place h;
     matched = q.fit;
@@ -47,6 +48,7 @@ module _ {P T R V S E : Type 0} (w : World P T S E) (s : Observers T R P E) (l :
         let b = subst (mismatch_at l n old.is_open) same_rest a in
         subst (λ j. mismatch_at l j old.is_open (drop q.progress.count old.unread)) q.place b;
     commits = i ∙ ap (nat_lt 0) q.place;
+    back = b;
     says = subst (λ us. refuses_next s old.position expected us committed e) same_rest r;
   }
 
@@ -55,14 +57,13 @@ module _ {P T R V S E : Type 0} (w : World P T S E) (s : Observers T R P E) (l :
     stopped = stops_at_token l gives n now.is_open now.unread mid.unread t k.unread f
 
     pub mismatch_reasons : (e : E) → true ≡ nat_lt 0 n → Mismatch s old.position t expected e → Reasoned {V = V} s.kind new.is_open says (CommitErr e)
-    mismatch_reasons e b m = reasons_committed s.kind new.is_open says e (λ i. refused_there true e stopped b (rw k.unread m))
+    mismatch_reasons e b m = reasons_committed s.kind new.is_open says e (λ i. refused_there true e stopped b (λ x. absurd (cc)) (rw k.unread m))
 
-    pub put_back_reasons : (result : ParseResult V E) → false ≡ nat_lt 0 n → Reasoned s.kind new.is_open (peeked_only (New s kinds.Refused old.position)) result → Reasoned s.kind new.is_open says result
-    put_back_reasons result b r = reasons_into s.kind new.is_open (peeked_only (New s kinds.Refused old.position)) says result into r
-      where
-        into : (committed : Bool) (e : E) → peeked_only (New s kinds.Refused old.position) committed e → says committed e
-        into true e p = absurd p
-        into false e p = refused_there false e stopped b (rw k.unread p)
+    pub put_back_reasons : (after : Failures) (result : ParseResult V E) → false ≡ nat_lt 0 n → (marked : View P T → Type 0) → marked old → PutsBackList w.counts_failures w.step s.kind marked mid new middle after result → Reasoned s.kind new.is_open (peeked_only (New s kinds.Refused old.position)) result → Reasoned s.kind new.is_open says result
+    put_back_reasons after (CommitOk v) b marked o p r = absurd p.is
+    put_back_reasons after (PeekOk v) b marked o p r = absurd p.is
+    put_back_reasons after (CommitErr e) b marked o p r = reasons_fault s.kind new.is_open says e kinds.Reset p.is.0 tt
+    put_back_reasons after (PeekErr x) b marked o p r = reasons_peeked s.kind new.is_open says x (refused_there false x.error stopped b (λ i. p.is.1 old o) (rw k.unread (reason_peeked s.kind new.is_open (peeked_only (New s kinds.Refused old.position)) x r)))
 
   module _ (after : Failures) (committed : Bool) (b : committed ≡ nat_lt 0 n) where
     closed : (i : Bool) → ((kinds.End ≡ kinds.End) × (i ≡ true) → ⊥) → i ≡ false
@@ -76,7 +77,13 @@ module _ {P T R V S E : Type 0} (w : World P T S E) (s : Observers T R P E) (l :
         ended = subst (λ (v : View P T). v.is_open ≡ false) x.same (closed new.is_open o)
 
         into : (c : Bool) (e : E) → SaysEnded s old.position committed c e → says c e
-        into c e p = refused_there c e (stops_at_end l gives n now.is_open now.unread x.unread ended) (p.commits ∙ b) (rw x.unread p.says)
+        into c e p =
+            let same : c ≡ false → new ≡ old = λ i.
+                let z = ltb-false 0 n (sym (p.commits ∙ b) ∙ i) in
+                let j = q.place in
+                let none : q.progress.count ≡ 0 = omega arith in
+                x.same ∙ subst (λ m. now ≡ advanced w.step m old) none q.progress.taken.rest in
+            refused_there c e (stops_at_end l gives n now.is_open now.unread x.unread ended) (p.commits ∙ b) same (rw x.unread p.says)
     unread_reasons kinds.Read (CommitOk v) x o p r = absurd p.is
     unread_reasons kinds.Read (PeekOk v) x o p r = absurd p.is
     unread_reasons kinds.Read (CommitErr e) x o p r = by_case p.is

@@ -41,13 +41,14 @@ module _ {T R P E : Type 0} (s : Observers T R P E) where
   refuses_next place expected (t ∷ ts) true e = Mismatch s place t expected e
   refuses_next place expected (t ∷ ts) false e = New s kinds.Refused place e
 
-  -- the error of a parser of a list that begins there at item n: so many tokens fit, and the next item finds none that does
+  -- the error of a parser of a list that begins there at item n: so many tokens fit, and the next item finds none that does; where it is peeked the stream is left as it was
   pub record RefusesList (l : TokenList T) (expected : Option (Info T R)) (n : ℕ) (v w : View P T) (committed : Bool) (e : E) : Type 0 where
     pub count : ℕ
     pub has : l.has (n + count)
     pub matched : Matched l n count v.unread
     pub stops : mismatch_at l (n + count) v.is_open (drop count v.unread)
     pub commits : committed ≡ nat_lt 0 (n + count)
+    pub back : committed ≡ false → w ≡ v
     pub says : refuses_next v.position expected (drop count v.unread) committed e
 
 -- the item that a call begins at, in its mode

@@ -112,7 +112,8 @@ returns-then-not-fits-clause-refuses g c =
     let i = c.items.invariant in
     let there = stands_there i.reached c.in-Some.ensures.steps in
     let n = c.if-not-fits.ensures in
-    put_back_reasons _ _ _ _ _ _ _ _ _ _ _ _ _ _ _ i.arrived (_, there) _ _ _ _ (_, there, n) c.in-Ok-uncons.ensures.read.is _ (sym (le-ltb _ _ c.if-matched-gt0.false)) (rw c.position-position.ensures at c.put_back.ensures.refuses)
+    let o = g.met.Input.ResetStream.lasts _ _ _ _ c.uncons.ensures.passes.marks (g.met.Input.ResetStream.lasts _ _ _ _ i.passes.marks c.checkpoint-start.ensures.stands) in
+    put_back_reasons _ _ _ _ _ _ _ _ _ _ _ _ _ _ _ i.arrived (_, there) _ _ _ _ (_, there, n) c.in-Ok-uncons.ensures.read.is _ _ (sym (le-ltb _ _ c.if-matched-gt0.false)) _ o c.put_back.ensures.back (rw c.position-position.ensures at c.put_back.ensures.refuses)
 
 pub returns-then-ends_open-clause-refuses : goal.returns-then-ends_open-clause-refuses
 returns-then-ends_open-clause-refuses g c =
