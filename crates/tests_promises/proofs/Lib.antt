@@ -1,2 +1,3 @@
 pub mod OneOutcome
 pub mod Exactly
+pub mod StepItems
