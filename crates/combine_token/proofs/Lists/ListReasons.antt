@@ -79,10 +79,10 @@ module _ {P T R V S E : Type 0} (w : World P T S E) (s : Observers T R P E) (l :
         into : (c : Bool) (e : E) → SaysEnded s old.position committed c e → says c e
         into c e p =
             let same : c ≡ false → new ≡ old = λ i.
-                let z = ltb-false 0 n (sym (p.commits ∙ b) ∙ i) in
-                let j = q.place in
-                let none : q.progress.count ≡ 0 = omega arith in
-                x.same ∙ subst (λ m. now ≡ advanced w.step m old) none q.progress.taken.rest in
+            let z = ltb-false 0 n (sym (p.commits ∙ b) ∙ i) in
+            let j = q.place in
+            let none : q.progress.count ≡ 0 = omega arith in
+            x.same ∙ subst (λ m. now ≡ advanced w.step m old) none q.progress.taken.rest in
             refused_there c e (stops_at_end l gives n now.is_open now.unread x.unread ended) (p.commits ∙ b) same (rw x.unread p.says)
     unread_reasons kinds.Read (CommitOk v) x o p r = absurd p.is
     unread_reasons kinds.Read (PeekOk v) x o p r = absurd p.is
