@@ -29,7 +29,7 @@ pub index_apart : {T : Type 0} (s t : SliceStream T) (v : View ℕ T) (k : ℕ) 
 index_apart s t v k e a = let z = ones_take k v.unread a.enough in let i = index_ahead s t v k e a in omega arith
 
 pub index_moved : {T : Type 0} (s t : SliceStream T) (v : View ℕ T) (k : ℕ) → v ≡ indexed_view s → Ahead one_more k v (indexed_view t) → not (nat_eq s.at t.at) ≡ nat_lt 0 k
-index_moved s t v k e a = let i = index_ahead s t v k e a in lengths_apart s.at t.at k (λ z. omega arith) (λ i. omega arith)
+index_moved s t v k e a = let j = index_ahead s t v k e a in lengths_apart s.at t.at k (λ z. omega arith) (λ i. omega arith)
 
 pub longest_same : {T : Type 0} (f : T → Bool → Type 0) (us vs : List T) (n : ℕ) → us ≡ vs → LongestItems (λ t. 1) f us n → LongestItems (λ t. 1) f vs n
 longest_same f us vs n e h = subst (λ xs. LongestItems (λ t. 1) f xs n) e h

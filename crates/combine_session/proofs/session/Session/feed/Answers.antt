@@ -5,7 +5,7 @@ use Rattle.combine_session.proofs.Sessions.{admits_fewer, answers_feed, fed_ok, 
 use Rattle.combine_session.proofs.session.Session.feed.Goals as goal
 
 pub feed-requires-clause-is_open : goal.feed-requires-clause-is_open
-feed-requires-clause-is_open g c = c.self.invariant.is_open (session_runs c.self.inside.stage c.in_ok-check.field-0 (sym c.check.ensures ∙ c.in_ok-check.was))
+feed-requires-clause-is_open g c κs l = c.self.invariant.is_open (session_runs c.self.inside.stage c.in_ok-check.field-0 (sym c.check.ensures ∙ c.in_ok-check.was))
 
 pub invariant_of-self-2 : goal.invariant_of-self-2
 invariant_of-self-2 g c =
