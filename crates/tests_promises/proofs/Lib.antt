@@ -1,3 +1,2 @@
 pub mod OneOutcome
 pub mod Exactly
-pub mod StepItems

@@ -13,7 +13,7 @@ use Rattle.combine_repeat_turns.specs.declared.bounds.Bounds.TheVariants.{Counte
 use Rattle.combine_sequence.specs.Then as second
 use Rattle.combine_token.specs.Token.OneToken.{of_function, of_function_is_predicate, one_token, one_token_at, satisfied, satisfied_is_test, takes_one, takes_one_means_one}
 
-pub any_at : {T : Type 0} (o : Bool) (us : List T) (a b : T) (n m : ℕ) (k c : Bool) → one_token_at (satisfied (of_function (λ t. true))) o us (Accepted a n k) → one_token_at (satisfied (of_function (λ t. true))) o us (Accepted b m c) → a ≡ b
+any_at : {T : Type 0} (o : Bool) (us : List T) (a b : T) (n m : ℕ) (k c : Bool) → one_token_at (satisfied (of_function (λ t. true))) o us (Accepted a n k) → one_token_at (satisfied (of_function (λ t. true))) o us (Accepted b m c) → a ≡ b
 any_at o [] a b n m k c p q = absurd p.1
 any_at o (t ∷ ts) a b n m k c p q = p.0.0 ∙ sym q.0.0
 

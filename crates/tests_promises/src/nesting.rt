@@ -1,13 +1,14 @@
 //! Grammars that nest, and expressions.
 ghost use Rattle.std.specs.Prelude.{◌≡◌};
 
-use crate::promises::keeps;
-use combine::Function;
+use crate::promises::{keeps, keeps_alone};
 use combine::error::ParseError;
-use combine::expression::{Fixity, Item, Operator, OperatorError, expression, laws};
+use combine::expression::{Fixity, Item, Operator, OperatorError, expression};
 use combine::nested::{Frame, Next, always, always_with, nested};
+use combine::parser::choice::optional;
 use combine::parser::combinator::map;
-use combine::parser::token::any;
+use combine::parser::error::expected;
+use combine::parser::token::{any, satisfy_map};
 use combine::stream::Stream;
 use std::alloc::{AllocError, Global};
 
@@ -46,76 +47,48 @@ where
     keeps::<Input, _>(nested(alloc, 2, || Brace, always(any())));
 }
 
-/// A plus, between operands. Of a sum that is too large it keeps the lowest byte.
+/// A plus, between operands.
 #[derive(Clone, Copy, Drop)]
 struct Plus;
 
 impl Operator for Plus {
     type Value = u8;
 
-    ghost refuses_operand = { λ _ _ _. ⊥ };
-
-    ghost refuses_operands = { λ _ _ _ _. ⊥ };
-
     fn change(self, operand: u8) -> Result<u8, OperatorError> {
         Ok(operand)
     }
 
     fn join(self, left: u8, right: u8) -> Result<u8, OperatorError> {
-        Ok(left.wrapping_add(right))
+        left.checked_add(right)
+            .ok_or(OperatorError::Refused("sum too large"))
     }
 }
 
-/// Any token as an operand.
-#[derive(Clone, Copy, Drop)]
-struct Byte;
-
-impl Function<u8> for Byte {
-    ghost use Rattle.combine_expression.specs.declared.expression.Item.TheVariants.{Operand};
-
-    type Output = Item<Plus, u8>;
-
-    ghost returns = { λ _ byte item. item ≡ Operand byte };
-
-    fn call(&self, byte: u8) -> Item<Plus, u8> {
+/// A plus, or any other token as an operand.
+fn lexeme_of(byte: u8) -> Option<Item<Plus, u8>> {
+    Some(if byte == b'+' {
+        Item::Infix(0, Plus)
+    } else {
         Item::Operand(byte)
-    }
+    })
 }
 
-/// A plus, or any other token as the end.
-#[derive(Clone, Copy, Drop)]
-struct PlusOrEnd;
-
-impl Function<u8> for PlusOrEnd {
-    ghost use Rattle.std.specs.Prelude.{if◌then◌else◌, nat_eq};
-    ghost use Rattle.combine_expression.specs.declared.expression.Item.TheVariants.{Close, Infix};
-
-    type Output = Item<Plus, u8>;
-
-    ghost returns = { λ _ byte item. item ≡ (if nat_eq byte 43 then Infix 0 record {} else Close) };
-
-    fn call(&self, byte: u8) -> Item<Plus, u8> {
-        if byte == b'+' {
-            return Item::Infix(0, Plus);
-        }
-        Item::Close
-    }
-}
-
-/// An expression whose operators refuse nothing has one outcome. Its laws can be cited.
+/// What an expression has in memory is that of no caller, so no more is said of it.
 fn sums<Input: Stream<Token = u8>>(alloc: Global)
 where
     Input::Error: ParseError<u8, Input::Range, Input::Position>,
 {
-    let sums = expression::<Plus, _, _, _, _>(
+    let lexeme = satisfy_map(|byte: u8| lexeme_of(byte));
+    let last = map(
+        optional(lexeme),
+        |next: Option<Item<Plus, u8>>| next.unwrap_or(Item::Close),
+    );
+    keeps_alone::<Input, _>(expression::<Plus, _, _, _, _>(
         alloc,
         0,
         [Fixity::Left],
-        always(map(any(), Byte)),
-        always_with(|| map(any(), PlusOrEnd)),
-        always(map(any(), PlusOrEnd)),
-    );
-    laws::accepted_is_expression::<Input, _, _, _, _>(&sums);
-    laws::refused_is_denied::<Input, _, _, _, _>(&sums);
-    keeps::<Input, _>(sums);
+        always(lexeme),
+        always_with(move || expected(lexeme, "operator")),
+        always(last),
+    ));
 }

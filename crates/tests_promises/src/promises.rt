@@ -28,3 +28,8 @@ pub fn puts_back_without_memory<Input: Stream, P: Parser<Input> + Drop>(parser: 
     requires puts_back { (P.meaning parser).puts_back }
     requires heapless { (P.meaning parser).heapless }
 {}
+
+/// Takes a parser that on need of more leaves nothing unread.
+pub fn keeps_alone<Input: Stream, P: Parser<Input> + Drop>(parser: P)
+    requires { (P.meaning parser).keeps }
+{}
