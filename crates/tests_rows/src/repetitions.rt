@@ -65,6 +65,7 @@ where
         sep_end_by::<Vec<u8>, _, _>(alloc, digit(), token(b';')),
         &[
             ("1;2;3;", "[123] taken 6 committed"),
+            ("1;2;3", "[123] taken 5 committed"),
             ("1;;2", "[1] taken 2 committed"),
         ],
     )
