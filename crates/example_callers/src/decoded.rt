@@ -2,7 +2,7 @@
 ghost use Rattle.combine_decode.specs.Messages.{IsMade};
 
 use combine::Maker;
-use combine::decode::{Batch, DecodeError, Decoder, decode_pieces};
+use combine::decode::{Batch, BatchEnd, DecodeError, Decoder, decode_pieces};
 use combine::parser::Parser;
 use combine::parser::byte::lower;
 use combine::parser::repeat::many1;
@@ -15,6 +15,21 @@ use std::alloc::{AllocError, Global};
 pub fn all_words(alloc: Global, pieces: &[&[u8]]) -> Result<Batch<Vec<u8>>, DecodeError> {
     let word = move || skip(many1::<Vec<u8>, _>(alloc, lower()), token(b';'));
     decode_pieces(alloc, word, pieces)
+}
+
+/// Counts the words of a peer that may never end one: where more than `most` bytes come after the last word, that is `TooLong`.
+pub fn count_words(alloc: Global, pieces: &[&[u8]], most: usize) -> Result<usize, DecodeError> {
+    let word = move || skip(many1::<Vec<u8>, _>(alloc, lower()), token(b';'));
+    let mut decoder = Decoder::with_limit(alloc, word, most);
+    let mut count = 0usize;
+    for piece in pieces {
+        let batch = decoder.feed(piece)?;
+        count = count.saturating_add(batch.messages.len());
+        if batch.end != BatchEnd::More {
+            break;
+        }
+    }
+    Ok(count)
 }
 
 /// What a decoder gave for a piece, and whether its messages then covered all tokens.
