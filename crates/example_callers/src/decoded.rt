@@ -17,21 +17,6 @@ pub fn all_words(alloc: Global, pieces: &[&[u8]]) -> Result<Batch<Vec<u8>>, Deco
     decode_pieces(alloc, word, pieces)
 }
 
-/// Counts the words of a peer that may never end one: where more than `most` bytes come after the last word, that is `TooLong`.
-pub fn count_words(alloc: Global, pieces: &[&[u8]], most: usize) -> Result<usize, DecodeError> {
-    let word = move || skip(many1::<Vec<u8>, _>(alloc, lower()), token(b';'));
-    let mut decoder = Decoder::with_limit(alloc, word, most);
-    let mut count = 0usize;
-    for piece in pieces {
-        let batch = decoder.feed(piece)?;
-        count = count.saturating_add(batch.messages.len());
-        if batch.end != BatchEnd::More {
-            break;
-        }
-    }
-    Ok(count)
-}
-
 /// What a decoder gave for a piece, and whether its messages then covered all tokens.
 #[derive(Debug, Drop, PartialEq)]
 pub struct Answered<V> {
@@ -61,4 +46,26 @@ pub fn answers<F: Maker<Output = P> + Drop, P: Parser<fed::Stream<u8>> + Drop>(
         })?;
     }
     Ok(answers)
+}
+
+/// Counts the messages of a peer that may never end one: where more than `most` bytes come after the last message, that is `TooLong`.
+pub fn count_messages<F: Maker<Output = P> + Drop, P: Parser<fed::Stream<u8>> + Drop>(
+    alloc: Global,
+    maker: F,
+    pieces: &[&[u8]],
+    most: usize,
+) -> Result<usize, DecodeError>
+    requires callable { F.callable maker }
+    requires lawful { IsMade (F.returns maker) P.lawful }
+{
+    let mut count = 0usize;
+    let mut decoder = Decoder::with_limit(alloc, maker, most);
+    'pieces: for piece in pieces {
+        let batch = decoder.feed(piece)?;
+        count = count.saturating_add(batch.messages.len());
+        if batch.end != BatchEnd::More {
+            break;
+        }
+    }
+    Ok(count)
 }
