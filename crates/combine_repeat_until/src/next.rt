@@ -97,12 +97,12 @@ fn choose_next<Input: Stream, E: Parser<Input>, P: Parser<Input, Output = E::Out
     requires valid { or_valid E.valid P.valid state.old }
     ensures chose { ChoseCall Input.StreamOnce Input.Error.observers (λ s. s ≡ OrState.Peek) (E.lawful end.new × P.lawful part.new) (or_valid E.valid P.valid) (either_of second_alone (E.meaning end.old) (P.meaning part.old)) (either_of second_alone (E.meaning end.new) (P.meaning part.new)) (M.first mode) state.old state.new input.old input.new result }
 {
-    let mut end = end;
-    let mut part = part;
-    match choose_first_half(&mut end, mode, input, state) {
+    let mut first = &mut *end;
+    match choose_first_half(&mut first, mode, input, state) {
         FirstResult::Done(answer) => answer,
         FirstResult::RunsLater(kept, _refused) => {
-            choose_second_half(&mut part, mode, input, None, kept, state)
+            let mut second = &mut *part;
+            choose_second_half(&mut second, mode, input, None, kept, state)
         }
     }
 }
