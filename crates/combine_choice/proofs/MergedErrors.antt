@@ -2,7 +2,7 @@
 use Rattle.std.proofs.Common.{ℕ, zero, suc, ◌≡◌, inl, inr, List, [], ◌∷◌, Bool, true, false, drop, length, refl, subst, sym}
 use Rattle.std.specs.declared.cmp.Ordering.{Ordering}
 use Rattle.combine_base.specs.Stream.View.{View}
-use Rattle.combine_base.specs.Error.Errors.{Observers, JoinedErrors, Only, later_position}
+use Rattle.combine_base.specs.Error.Errors.{Observers, Only}
 use Rattle.combine_base.specs.Parser.Meaning.{Meaning, MeantRefusal, Reading, Refusing, begun_refuses, refusals}
 use Rattle.combine_base.specs.Parser.Reasons.{Reasoned, ReasonedCall}
 use Rattle.combine_base.specs.Refusals.{HasItems}
@@ -12,7 +12,7 @@ use Rattle.combine_base.specs.declared.stream.Kind.TheVariants as kinds
 use Rattle.combine_base.specs.declared.error.Tracked.{Tracked}
 use Rattle.combine_base.specs.declared.error.ParseResult.{ParseResult}
 use Rattle.combine_base.specs.declared.error.ParseResult.TheVariants.{CommitOk, PeekOk, CommitErr, PeekErr}
-use Rattle.combine_token.specs.Choice.Alternatives.{AfterRefusal, refuses_both}
+use Rattle.combine_token.specs.Choice.Alternatives.{AfterRefusal, both_merged, refuses_both}
 use Rattle.combine_choice.specs.ListChoice.{choice_of}
 use Rattle.combine_choice.specs.MergedErrors.{choice_is_empty, merges, one_commits, on_refuses, tried_refuses}
 use Rattle.combine_choice.specs.SliceCalls.{NoAlternative, BeginsAfresh, InFirst, AtPeek, PastLast}
@@ -50,27 +50,27 @@ module _ {X P T R E V S : Type 0} (s : Observers T R P E) (cmp : P → P → Ord
     commits : (e : E) → refusals (m x) v w true e → whole w true e
     commits e p = g.commits w e (subst (λ qs. one_commits s cmp m qs v w e) (sym here) (inl p))
 
-    joins : (other : E) → refusals (m x) v w false other → (both : E) → JoinedErrors s (later_position cmp (s.position so_far) (s.position other)) so_far other both → MakesUpError whole ys w both
+    joins : (other : E) → refusals (m x) v w false other → (both : E) → both_merged s cmp so_far other both → MakesUpError whole ys w both
     joins other p both j = record {
       commits = λ u a q. g.commits u a (subst (λ qs. one_commits s cmp m qs v u a) (sym here) (inr (p.meant, q)));
       merged = λ u a q. g.merged u a (subst (λ qs. merges s cmp m so_far left qs v u a) (sym here) (both, w, record { other = other; refused = p; joined = j }, q));
     }
 
     -- the next was refused peeked as well
-    pub makes_up_next : (answer : ParseResult V E) → Reasoned s.kind w.is_open (refusals (m x) v w) answer → (t : Tracked E) → AfterRefusal s cmp so_far answer (PeekErr t) → MakesUpError whole ys w t.error
+    pub makes_up_next : (answer : ParseResult V E) → Reasoned s.kind w.is_open (refusals (m x) v w) answer → (t : Tracked E) → AfterRefusal s (both_merged s cmp) so_far answer (PeekErr t) → MakesUpError whole ys w t.error
     makes_up_next (CommitOk a) r t h = absurd (let i = h.is in cc)
     makes_up_next (PeekOk a) r t h = absurd (let i = h.is in cc)
     makes_up_next (CommitErr e) r t h = absurd (let i = h.is in cc)
     makes_up_next (PeekErr u) r t h = joins u.error (reason_peeked s.kind w.is_open (refusals (m x) v w) u r) t.error h.is
 
-    merging : (u : Tracked E) (result : ParseResult V E) → IsSettled result → refuses_both s cmp so_far u.error result → Reasoned s.kind w.is_open (whole w) result
+    merging : (u : Tracked E) (result : ParseResult V E) → IsSettled result → refuses_both s (both_merged s cmp) so_far u.error result → Reasoned s.kind w.is_open (whole w) result
     merging u (CommitOk a) i h = absurd h
     merging u (PeekOk a) i h = absurd h
     merging u (CommitErr e) i h = reasons_fault s.kind w.is_open (whole w) e kinds.Memory h.0 tt
     merging u (PeekErr t) i h = absurd i
 
     -- the next answered something else
-    pub next_reasons : (answer : ParseResult V E) → Reasoned s.kind w.is_open (refusals (m x) v w) answer → (result : ParseResult V E) → IsSettled result → AfterRefusal s cmp so_far answer result → Reasoned s.kind w.is_open (whole w) result
+    pub next_reasons : (answer : ParseResult V E) → Reasoned s.kind w.is_open (refusals (m x) v w) answer → (result : ParseResult V E) → IsSettled result → AfterRefusal s (both_merged s cmp) so_far answer result → Reasoned s.kind w.is_open (whole w) result
     next_reasons (CommitOk a) r result i h = rw h.is (reasons_ok s.kind w.is_open (whole w) a)
     next_reasons (PeekOk a) r result i h = rw h.is (reasons_peek_ok s.kind w.is_open (whole w) a)
     next_reasons (CommitErr e) r result i h = rw h.is (reasons_hand_on s.kind w.is_open (refusals (m x) v w) (whole w) e commits r)

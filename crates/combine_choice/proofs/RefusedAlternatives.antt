@@ -19,7 +19,7 @@ use Rattle.combine_base.specs.declared.stream.Failures.{Failures}
 use Rattle.combine_base.specs.declared.error.Tracked.{Tracked}
 use Rattle.combine_base.specs.declared.error.ParseResult.{ParseResult}
 use Rattle.combine_base.specs.declared.error.ParseResult.TheVariants.{CommitOk, PeekOk, CommitErr, PeekErr}
-use Rattle.combine_token.specs.Choice.Alternatives.{AfterRefusal, PeeksNoFault, refuses_both}
+use Rattle.combine_token.specs.Choice.Alternatives.{AfterRefusal, PeeksNoFault, both_merged, refuses_both}
 use Rattle.combine_token.specs.Choice.Choices.{OrElse, Later, either_into}
 use Rattle.combine_token.proofs.Choices.ChoiceOutcomes.{Tries, tries_start, tries_asks, tries_fails, tries_commit_ok, tries_peek_ok}
 use Rattle.combine_token.proofs.Choices.MergedRefusals.{no_fault}
@@ -211,20 +211,20 @@ module _ {X P T R V S E : Type 0} (step : P → T → P) (errors : Observers T R
         record { is = rw h.0 (λ f l. h.1 f, l) }
 
     -- so is what comes after peeked refusals
-    pub later_settles : Now → (so_far : E) (answer result : ParseResult V E) → IsSettled result → CallsIt answer → AfterRefusal errors cmp so_far answer result → Answers outer (choice_of errors cmp m xs) whole_run result
+    pub later_settles : Now → (so_far : E) (answer result : ParseResult V E) → IsSettled result → CallsIt answer → AfterRefusal errors (both_merged errors cmp) so_far answer result → Answers outer (choice_of errors cmp m xs) whole_run result
     later_settles z so_far (CommitOk v) result i t h = rw h.is (alternative_settles z (CommitOk v) tt t)
     later_settles z so_far (PeekOk v) result i t h = rw h.is (alternative_settles z (PeekOk v) tt t)
     later_settles z so_far (CommitErr e) result i t h = rw h.is (alternative_settles z (CommitErr e) tt t)
     later_settles z so_far (PeekErr t) result i k h = by_result result i h.is
       where
-        by_result : (result : ParseResult V E) → IsSettled result → refuses_both errors cmp so_far t.error result → Answers outer (choice_of errors cmp m xs) whole_run result
+        by_result : (result : ParseResult V E) → IsSettled result → refuses_both errors (both_merged errors cmp) so_far t.error result → Answers outer (choice_of errors cmp m xs) whole_run result
         by_result (CommitOk v) i h = absurd h
         by_result (PeekOk v) i h = absurd h
         by_result (CommitErr e) i h = unstored z t e k h
         by_result (PeekErr u) i h = absurd i
 
     -- all those so far were refused peeked
-    pub later_refuses : {C : Type 0} {a d : C → View P T → Type 0} → Now → IsReading (begun (m x) first s) → (so_far : E) (answer : ParseResult V E) (e : Tracked E) → CallsIt answer → AfterRefusal errors cmp so_far answer (PeekErr e) → IsPeeked old.is_open (errors.kind so_far) → Passes a d f after → (every m (λ a. a.keeps) xs → every m (λ a. a.keeps) ys) → (every m (λ a. a.puts_back) xs → every m (λ a. a.puts_back) ys) → (every m (λ a. a.heapless) xs → every m (λ a. a.heapless) ys) → RefusedBefore inner errors cmp m xs began given old before ys new after (errors.kind e.error) × (kept ≡ Peek)
+    pub later_refuses : {C : Type 0} {a d : C → View P T → Type 0} → Now → IsReading (begun (m x) first s) → (so_far : E) (answer : ParseResult V E) (e : Tracked E) → CallsIt answer → AfterRefusal errors (both_merged errors cmp) so_far answer (PeekErr e) → IsPeeked old.is_open (errors.kind so_far) → Passes a d f after → (every m (λ a. a.keeps) xs → every m (λ a. a.keeps) ys) → (every m (λ a. a.puts_back) xs → every m (λ a. a.puts_back) ys) → (every m (λ a. a.heapless) xs → every m (λ a. a.heapless) ys) → RefusedBefore inner errors cmp m xs began given old before ys new after (errors.kind e.error) × (kept ≡ Peek)
     later_refuses z y so_far (CommitOk v) e t h p a ke pu le = absurd (let i = h.is in cc)
     later_refuses z y so_far (PeekOk v) e t h p a ke pu le = absurd (let i = h.is in cc)
     later_refuses z y so_far (CommitErr k) e t h p a ke pu le = absurd (let i = h.is in cc)

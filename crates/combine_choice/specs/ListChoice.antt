@@ -9,7 +9,7 @@ use Rattle.combine_base.specs.Error.Errors.{Observers}
 use Rattle.combine_base.specs.Error.Items.{ErrorItem}
 use Rattle.combine_base.specs.Parser.Outcome.{Refused, Outcome, Accepted, Undecided}
 use Rattle.combine_base.specs.Parser.Meaning.{Meaning, Reading, Refusing, IsReading, IsSingle, IsMeaning, MeansOne, MeansSame, SameReasons, meant_same, refusals_same}
-use Rattle.combine_token.specs.Choice.Alternatives.{Together, together_both, together_assoc}
+use Rattle.combine_token.specs.Choice.Alternatives.{Together, both_merged, together_both, together_assoc}
 use Rattle.combine_token.specs.Choice.Choices.{ReadingsAgree, OrElse, refused, refused_is_reading, refused_is_single, either_is_reading, either_is_single, either_both, agree_self, Here, IsFirm, Later, either_assoc, either_last}
 use Rattle.combine_choice.specs.MergedErrors.{Joins, RefusesChoice, RefusesChoiceFrom, chosen_refuses, alternative_refuses, merges, on_refuses, one_commits, tried_refuses}
 use Rattle.combine_choice.specs.declared.choice.slice.SliceState.{SliceState}
@@ -316,7 +316,7 @@ module _ {X P T R E V S : Type 0} (errors : Observers T R P E) (cmp : P → P �
   }
 
   -- two choices are the choice of all their alternatives
-  pub both_start : {S1 S2 : Type 0} {a : Meaning P T R E V S1} {b : Meaning P T R E V S2} (xs ys : List X) → StartsSame a (choice_of errors cmp m xs) → StartsSame b (choice_of errors cmp m ys) → StartsSame (either_of errors cmp a b) (choice_of errors cmp m (xs ++ ys))
+  pub both_start : {S1 S2 : Type 0} {a : Meaning P T R E V S1} {b : Meaning P T R E V S2} (xs ys : List X) → StartsSame a (choice_of errors cmp m xs) → StartsSame b (choice_of errors cmp m ys) → StartsSame (either_of (both_merged errors cmp) a b) (choice_of errors cmp m (xs ++ ys))
   both_start {S1} {S2} {a} {b} xs ys h k =
       let p = first_alternative m xs in
       let q = first_alternative m ys in

@@ -3,11 +3,12 @@ use Rattle.std.specs.Prelude.{◌≡◌, ◌⊎◌, codes, List, [], ◌∷◌, 
 use Rattle.std.specs.declared.cmp.Ordering.{Ordering}
 use Rattle.combine_base.specs.Stream.View.{View}
 use Rattle.combine_base.specs.Error.Items.{ErrorItem, Message, Fixed}
-use Rattle.combine_base.specs.Error.Errors.{Observers, JoinedErrors, Only, later_position}
+use Rattle.combine_base.specs.Error.Errors.{Observers, Only}
 use Rattle.combine_base.specs.Parser.Meaning.{Meaning, MeantRefusal, Reading, Refusing, refusals}
 use Rattle.combine_base.specs.Parser.Outcome.{Refused}
 use Rattle.combine_base.specs.Refusals.{HasItems}
 use Rattle.combine_base.specs.declared.stream.Kind.TheVariants as kinds
+use Rattle.combine_token.specs.Choice.Alternatives.{both_merged}
 use Rattle.combine_token.specs.Token.TokenReasons.{peeked_only}
 use Rattle.combine_choice.specs.declared.choice.slice.SliceState.{SliceState}
 use Rattle.combine_choice.specs.declared.choice.slice.SliceState.TheVariants.{Peek, At}
@@ -20,7 +21,7 @@ module _ {X P T R E V S : Type 0} (s : Observers T R P E) (cmp : P → P → Ord
   pub record Joins (so_far : E) (x : X) (v w : View P T) (both : E) : Type 0 where
     pub other : E
     pub refused : refusals (m x) v w false other
-    pub joined : JoinedErrors s (later_position cmp (s.position so_far) (s.position other)) so_far other both
+    pub joined : both_merged s cmp so_far other both
 
   -- one of the alternatives is refused committed, with such an error, and those before it peeked; they all begin afresh
   abbrev pub one_commits : List X → View P T → View P T → E → Type 0

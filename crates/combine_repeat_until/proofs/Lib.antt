@@ -1,4 +1,5 @@
 mod DroppedBlocks
+mod NextCalls
 mod MutedRefusals
 mod UntilTurn
 mod UntilCalls

@@ -1,12 +1,10 @@
 -- the parsers that the constructors build, and their parts; and repetitions up to a place beside one another
 use Rattle.std.specs.declared.alloc.Global.{Global}
-use Rattle.std.specs.declared.cmp.Ordering.{Ordering}
 use Rattle.combine_base.specs.Error.Errors.{Observers}
 use Rattle.combine_base.specs.Parser.Meaning.{Meaning}
 use Rattle.combine_combinator.specs.CombinatorParsers.{picked_of, picked_part}
 use Rattle.combine_combinator.specs.declared.combinator.values.Nothing.{Nothing}
 use Rattle.combine_combinator.specs.declared.combinator.values.Picked.{Picked}
-use Rattle.combine_token.specs.Choice.Or.{or_parser}
 use Rattle.combine_token.specs.Token.TokenParsers.{any_parser}
 use Rattle.combine_token.specs.declared.choice.OrState.{OrState}
 use Rattle.combine_token.specs.declared.token.types.Any.{Any}
@@ -25,13 +23,13 @@ use Rattle.combine_combinator.specs.ValueParts.{Picks}
 use Rattle.combine_repeat_turns.specs.Repeat.Counts.{DropsValues}
 
 abbrev pub next_of : {A X Y : Type 0} → X → Y → Next A X Y
-next_of part end = record { either = or_parser (picked_of end) (picked_of part) }
+next_of part end = record { end = picked_of end; part = picked_of part }
 
 abbrev pub next_end : {A X Y : Type 0} → Next A X Y → Y
-next_end p = picked_part p.either.0
+next_end p = picked_part p.end
 
 abbrev pub next_part : {A X Y : Type 0} → Next A X Y → X
-next_part p = picked_part p.either.1
+next_part p = picked_part p.part
 
 abbrev pub mute_of : {Y : Type 0} → Y → Mute Y
 mute_of part = record { part = part }
@@ -70,20 +68,20 @@ blocks_end p = next_end p.turn
 abbrev pub blocks_part : {F A X Y : Type 0} → BlocksUntil F A X Y → X
 blocks_part p = next_part p.turn
 
-module _ {P T R E A B V S U : Type 0} (step : P → T → P) (errors : Observers T R P E) (cmp : P → P → Ordering) (c : Collecting (Option A) V) where
+module _ {P T R E A B V S U : Type 0} (step : P → T → P) (errors : Observers T R P E) (c : Collecting (Option A) V) where
   -- blocks of a parser, up to the first place where the other one isn't refused peeked
   abbrev pub repeat_until : Meaning P T R E A S → Meaning P T R E B U → Meaning P T R E V (UntilState V (OrState U S))
-  repeat_until part end = until step errors c (next errors cmp end part)
+  repeat_until part end = until step errors c (next end part)
 
 -- no value
 abbrev pub drops_value : {A : Type 0} → A → Unit {0}
 drops_value a = tt
 
-module _ {P T R E A B S U : Type 0} (step : P → T → P) (errors : Observers T R P E) (cmp : P → P → Ordering) where
+module _ {P T R E A B S U : Type 0} (step : P → T → P) (errors : Observers T R P E) where
   -- the blocks, their values dropped
   abbrev pub repeat_skip_until : Meaning P T R E A S → Meaning P T R E B U → Meaning P T R E Unit (UntilState Sink (OrState U S))
-  repeat_skip_until part end = mapped (repeat_until step errors cmp (some_dropped {V = Sink}) part end) (Picks drops_value)
+  repeat_skip_until part end = mapped (repeat_until step errors (some_dropped {V = Sink}) part end) (Picks drops_value)
 
   -- they take the same tokens, accepted or refused alike, and the first collects what the second drops
   abbrev pub RepeatOrSkip : {V : Type 0} → Collecting (Option A) V → Meaning P T R E A S → Meaning P T R E B U → Type 0
-  RepeatOrSkip c part end = DropsValues c (repeat_until step errors cmp c part end).whole (repeat_skip_until part end).whole
+  RepeatOrSkip c part end = DropsValues c (repeat_until step errors c part end).whole (repeat_skip_until part end).whole

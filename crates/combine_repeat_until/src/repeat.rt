@@ -29,7 +29,7 @@ use types::{
 ///
 /// # Errors
 ///
-/// - Every other result of `end` there, or of `parser`, is the result. A refusal of `parser` says what was expected there.
+/// - Every other result of `end` there, or of `parser`, is the result. A refusal of `parser` has its error alone, with nothing of that of `end`; where it is peeked, it says what was expected there.
 /// - A block that takes nothing is refused, committed, with the message `repetition takes nothing`, at the position where it began.
 /// - Faults are those of the parsers, `Reset`, `Read` and `Lost` of the stream, and `Memory` if the collection can't grow.
 ///
@@ -82,7 +82,7 @@ pub fn repeat_skip_until<A, P, E>(parser: P, end: E) -> SkipRepeatUntil<A, P, E>
 ///
 /// # Errors
 ///
-/// - If the input ends first it is refused peeked, with the error at that end.
+/// - If the input ends first it is refused peeked. The error stands at that end, which it says is unexpected, and has nothing of that of `end` but what `end` expects.
 /// - Every other result of `end` is the result.
 /// - Faults are those of `end`, `Reset`, `Read` and `Lost` of the stream, and `Memory` if the collection can't grow.
 ///

@@ -1,7 +1,7 @@
 //! Choices: the first parser that isn't refused peeked gives the result.
 ghost use Rattle.std.specs.Prelude.{◌≡◌};
 ghost use Rattle.combine_base.specs.Error.Errors.{IsFault};
-ghost use Rattle.combine_token.specs.Choice.Alternatives.{AfterRefusal, PeeksNoFault};
+ghost use Rattle.combine_token.specs.Choice.Alternatives.{AfterRefusal, PeeksNoFault, both_merged};
 ghost use Rattle.combine_token.specs.Choice.Optional.{optional_parser};
 ghost use Rattle.combine_token.specs.Choice.Or.{StartsSame, or_parser};
 
@@ -125,7 +125,7 @@ pub fn after_refusal<O, T: Copy, R: Copy, P: Ord, E: ParseError<T, R, P>>(
 ) -> ParseResult<O, E>
     requires first { IsFault (E.observers.kind first.error) → ⊥ }
     requires later { PeeksNoFault E.observers.kind answer }
-    ensures { AfterRefusal E.observers P.cmp first.error answer result }
+    ensures { AfterRefusal E.observers (both_merged E.observers P.cmp) first.error answer result }
 {
     match answer {
         ParseResult::CommitOk(value) => ParseResult::CommitOk(value),

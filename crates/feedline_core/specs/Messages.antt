@@ -9,6 +9,7 @@ use Rattle.combine_base.specs.Error.Errors.{AddsNothing, Only}
 use Rattle.combine_base.specs.Error.Items.{Expected, OfToken}
 use Rattle.combine_base.specs.Error.NoItems.{no_items}
 use Rattle.combine_base.specs.Sequence.Tuples.{tuple_3, tuple_4}
+use Rattle.combine_token.specs.Choice.Alternatives.{both_merged}
 use Rattle.combine_token.specs.Choice.Or.{either_of}
 use Rattle.combine_token.specs.Token.OneToken.{of_function, satisfied, takes_one}
 use Rattle.combine_base.specs.declared.error.UnexpectedParse.{UnexpectedParse}
@@ -75,7 +76,7 @@ set = mapped (tuple_4 step no_items word (byte_meaning 61) digits (byte_meaning 
 
 -- the first of these and `set` that isn't refused peeked
 abbrev pub or_set : {S : Type 0} → Meaning ℕ ℕ (Unit {0}) UnexpectedParse Message S → Meaning ℕ ℕ (Unit {0}) UnexpectedParse Message (OrState S SetState)
-or_set first = either_of no_items nat_cmp first set
+or_set first = either_of (both_merged {T = ℕ} {R = Unit {0}} no_items nat_cmp) first set
 
 abbrev pub message : Meaning ℕ ℕ (Unit {0}) UnexpectedParse Message (OrState (DeleteState (TryState (PartialState4 (SequenceState (Unit {0}) (Unit {0})) (SequenceState (record { 0 : ℕ }) (Unit {0})) (SequenceState (ℕ × ℕ) (Unit {0})) (SequenceState (ℕ × ℕ × ℕ) (Unit {0}))))) SetState)
 message = or_set delete

@@ -17,5 +17,5 @@ pub fn repeat_skip_until_is_repeat_until_dropped<
 >(parser: &P, end: &E)
 where
     F: Append<P::Output>,
-    ensures { RepeatOrSkip Input.step Input.Error.observers Input.Position.cmp (some_appended F.held F.none F.more F.heapless) (P.meaning parser.now) (E.meaning end.now) }
+    ensures { RepeatOrSkip Input.step Input.Error.observers (some_appended F.held F.none F.more F.heapless) (P.meaning parser.now) (E.meaning end.now) }
 {}

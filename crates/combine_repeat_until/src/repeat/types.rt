@@ -54,15 +54,15 @@ impl<Input: Stream, A: Drop, P: Parser<Input, Output = A>, E: Parser<Input>, F: 
 
     ghost valid = { until_valid (or_valid E.valid P.valid) };
 
-    ghost meaning = { λ p. repeat_until Input.step Input.Error.observers Input.Position.cmp (some_appended F.held F.none F.more F.heapless) (P.meaning (blocks_part p)) (E.meaning (blocks_end p)) };
+    ghost meaning = { λ p. repeat_until Input.step Input.Error.observers (some_appended F.held F.none F.more F.heapless) (P.meaning (blocks_part p)) (E.meaning (blocks_end p)) };
 
     ghost parts = { λ _. 1 };
 
     ghost default_valid = { λ s d. rw d tt };
 
-    ghost laws = { λ p l. until_is_meaning Input.step Input.Error.observers (some_appended F.held F.none F.more F.heapless) _ _ _ (next_is_meaning Input.Error.observers Input.Position.cmp _ _ (E.laws (blocks_end p) l.0) (P.laws (blocks_part p) l.1)) };
+    ghost laws = { λ p l. until_is_meaning Input.step Input.Error.observers (some_appended F.held F.none F.more F.heapless) _ _ _ (next_is_meaning _ _ (E.laws (blocks_end p) l.0) (P.laws (blocks_part p) l.1)) };
 
-    ghost single = { λ p l d. until_means_one Input.step Input.Error.observers (some_appended F.held F.none F.more F.heapless) _ _ (next_once Input.Error.observers Input.Position.cmp E.PartialState.is_default _ P.PartialState.is_default _ _ _ (E.single (blocks_end p) l.0 d.0) (P.single (blocks_part p) l.1 d.1)) };
+    ghost single = { λ p l d. until_means_one Input.step Input.Error.observers (some_appended F.held F.none F.more F.heapless) _ _ (next_once E.PartialState.is_default _ P.PartialState.is_default _ _ _ (E.single (blocks_end p) l.0 d.0) (P.single (blocks_part p) l.1 d.1)) };
 
     #[inline(always)]
     fn parse_mode<M: ParseMode>(
@@ -109,15 +109,15 @@ impl<Input: Stream, A: Drop, P: Parser<Input, Output = A>, E: Parser<Input>> Par
 
     ghost valid = { until_valid (or_valid E.valid P.valid) };
 
-    ghost meaning = { λ p. repeat_until Input.step Input.Error.observers Input.Position.cmp some_dropped (P.meaning (skipped_part p)) (E.meaning (skipped_end p)) };
+    ghost meaning = { λ p. repeat_until Input.step Input.Error.observers some_dropped (P.meaning (skipped_part p)) (E.meaning (skipped_end p)) };
 
     ghost parts = { λ _. 1 };
 
     ghost default_valid = { λ s d. rw d tt };
 
-    ghost laws = { λ p l. until_is_meaning Input.step Input.Error.observers some_dropped _ _ _ (next_is_meaning Input.Error.observers Input.Position.cmp _ _ (E.laws (skipped_end p) l.0) (P.laws (skipped_part p) l.1)) };
+    ghost laws = { λ p l. until_is_meaning Input.step Input.Error.observers some_dropped _ _ _ (next_is_meaning _ _ (E.laws (skipped_end p) l.0) (P.laws (skipped_part p) l.1)) };
 
-    ghost single = { λ p l d. until_means_one Input.step Input.Error.observers some_dropped _ _ (next_once Input.Error.observers Input.Position.cmp E.PartialState.is_default _ P.PartialState.is_default _ _ _ (E.single (skipped_end p) l.0 d.0) (P.single (skipped_part p) l.1 d.1)) };
+    ghost single = { λ p l d. until_means_one Input.step Input.Error.observers some_dropped _ _ (next_once E.PartialState.is_default _ P.PartialState.is_default _ _ _ (E.single (skipped_end p) l.0 d.0) (P.single (skipped_part p) l.1 d.1)) };
 
     #[inline(always)]
     fn parse_mode<M: ParseMode>(

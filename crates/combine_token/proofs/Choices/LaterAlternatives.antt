@@ -1,7 +1,6 @@
 -- the first alternative ends the choice, or what the later ones answer is its answer
 use Rattle.std.proofs.Common.{◌≡◌, inl, inr, Bool, true, false, arith, subst, refl, ◌∙◌}
 use Rattle.std.specs.Prelude.{Option, Some, None}
-use Rattle.std.specs.declared.cmp.Ordering.{Ordering}
 use Rattle.combine_base.specs.Stream.View.{View, extended}
 use Rattle.combine_base.specs.Parser.Outcome.{Outcome}
 use Rattle.combine_base.specs.Error.Errors.{Observers}
@@ -16,10 +15,10 @@ use Rattle.combine_base.specs.declared.error.ParseResult.TheVariants.{CommitOk, 
 use Rattle.combine_token.specs.Choice.Choices.{OrElse, refused, either_into}
 use Rattle.combine_token.specs.Choice.Or.{either_of, or_valid}
 use Rattle.combine_token.proofs.Choices.ChoiceOutcomes.{Tries, tries_next, tries_commit_ok, tries_peek_ok, tries_fails, tries_asks, tries_ends, tries_needs}
-use Rattle.combine_token.proofs.Choices.MergedRefusals.{no_fault, merged_answers}
+use Rattle.combine_token.proofs.Choices.MergedRefusals.{JoinsKinds, no_fault, merged_answers}
 use Rattle.combine_token.specs.declared.choice.OrState.{OrState}
 use Rattle.combine_token.specs.declared.choice.OrState.TheVariants.{Peek, A, B}
-use Rattle.combine_token.specs.Choice.FirstAlternative.{FirstEnded, FirstAnswered, FirstFailed, RanFirst, KeepsFirst, FirstResumed, IsFinal, first_did, first_begins_in, first_valid, NoFault, SettlesLater, merged_with_first}
+use Rattle.combine_token.specs.Choice.FirstAlternative.{FirstEnded, FirstAnswered, FirstFailed, RanFirst, KeepsFirst, FirstResumed, IsFinal, first_did, first_begins_in, first_valid, NoFault, SettlesLater, joined_with_first}
 use Rattle.combine_token.specs.declared.choice.first.FirstResult.TheVariants.{RunsLater}
 use Rattle.combine_token.proofs.Choices.FirstAlternative.{asks_or_not}
 
@@ -29,7 +28,7 @@ first_is_valid valid valid' Peek h = tt
 first_is_valid valid valid' (A s) h = h
 first_is_valid valid valid' (B t) h = tt
 
-module _ {P T R V S S' E : Type 0} (step : P → T → P) (errors : Observers T R P E) (counts_failures : Type 0) (cmp : P → P → Ordering) {fresh valid : S → Type 0} {fresh' valid' : S' → Type 0} {a : Meaning P T R E V S} {b : Meaning P T R E V S'} (h : IsMeaning fresh valid a) (k : IsMeaning fresh' valid' b) (first : Bool) (given : OrState S S') (old : View P T) (before : Failures) where
+module _ {P T R V S S' E : Type 0} (step : P → T → P) (errors : Observers T R P E) (counts_failures : Type 0) (joins : E → E → E → Type 0) {fresh valid : S → Type 0} {fresh' valid' : S' → Type 0} {a : Meaning P T R E V S} {b : Meaning P T R E V S'} (h : IsMeaning fresh valid a) (k : IsMeaning fresh' valid' b) (first : Bool) (given : OrState S S') (old : View P T) (before : Failures) where
   abbrev w : World P T S E
   w = world step errors counts_failures fresh
 
@@ -40,7 +39,7 @@ module _ {P T R V S S' E : Type 0} (step : P → T → P) (errors : Observers T 
   q = OrElse b.whole refused
 
   abbrev m : Meaning P T R E V (OrState S S')
-  m = either_of errors cmp a b
+  m = either_of joins a b
 
   abbrev empty : OrState S S' → Type 0
   empty s = s ≡ Peek
@@ -135,7 +134,7 @@ module _ {P T R V S S' E : Type 0} (step : P → T → P) (errors : Observers T 
         let r = x.ran in
         no_fault w a (record { first = first; state = r.state; left = r.stopped; old = old; new = x.view; before = before; after = x.failures }) t r.answers
 
-    pub gone_valid : (kept' : S') (is_open : Bool) (left : OrState S S') (t : Option (Tracked E)) → goes t → (answer result : ParseResult V E) → SettlesLater errors cmp is_open t kept' none left answer result → valid' kept' → or_valid valid valid' left
+    pub gone_valid : (kept' : S') (is_open : Bool) (left : OrState S S') (t : Option (Tracked E)) → goes t → (answer result : ParseResult V E) → SettlesLater errors joins is_open t kept' none left answer result → valid' kept' → or_valid valid valid' left
     gone_valid kept' is_open left t x answer result s v =
         elim (asks_or_not errors.kind is_open answer) [
           | inl i ↦ rw (s.asks i) v
@@ -146,15 +145,15 @@ module _ {P T R V S S' E : Type 0} (step : P → T → P) (errors : Observers T 
       abbrev later_run : CallRecord P T S'
       later_run = record { first = first; state = kept; left = kept'; old = now; new = new; before = so_far; after = after }
 
-      module _ (left : OrState S S') where
+      module _ (kinds_of : JoinsKinds errors joins) (left : OrState S S') where
         abbrev all_run : CallRecord P T (OrState S S')
         all_run = record { first = first; state = given; left = left; old = old; new = new; before = before; after = after }
 
-        merge : (t : Option (Tracked E)) → NoFault errors.kind t → (answer result : ParseResult V E) → merged_with_first errors cmp t answer result → Answers (world step errors counts_failures empty) m all_run answer → Answers (world step errors counts_failures empty) m all_run result
+        merge : (t : Option (Tracked E)) → NoFault errors.kind t → (answer result : ParseResult V E) → joined_with_first errors joins t answer result → Answers (world step errors counts_failures empty) m all_run answer → Answers (world step errors counts_failures empty) m all_run result
         merge None n answer result e p = rw e p
-        merge (Some t) n answer result e p = merged_answers step errors counts_failures empty m all_run cmp t.error n answer result p e
+        merge (Some t) n answer result e p = merged_answers step errors counts_failures empty m all_run joins kinds_of t.error n answer result p e
 
-        pub gone_answers : {C : Type 0} {d d' : C → View P T → Type 0} → Passes d d' before so_far → (t : Option (Tracked E)) → goes t → (answer result : ParseResult V E) → Answers w' b later_run answer → SettlesLater errors cmp new.is_open t kept' none left answer result → Answers (world step errors counts_failures empty) m all_run result
+        pub gone_answers : {C : Type 0} {d d' : C → View P T → Type 0} → Passes d d' before so_far → (t : Option (Tracked E)) → goes t → (answer result : ParseResult V E) → Answers w' b later_run answer → SettlesLater errors joins new.is_open t kept' none left answer result → Answers (world step errors counts_failures empty) m all_run result
         gone_answers p t x answer result y s =
             let z = later_tries p t x in
             merge t (first_no_fault t x) answer result s.is (elim (asks_or_not errors.kind new.is_open answer) [

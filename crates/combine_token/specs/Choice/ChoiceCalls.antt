@@ -9,7 +9,6 @@ use Rattle.combine_base.specs.declared.stream.Failures.{Failures}
 use Rattle.combine_base.specs.declared.error.ParseResult.{ParseResult}
 use Rattle.combine_token.specs.declared.choice.OrState.{OrState}
 use Rattle.combine_token.specs.Choice.FirstAlternative.{SettlesLater, FirstDid}
-use Rattle.std.specs.declared.cmp.Ordering.{Ordering}
 use Rattle.combine_base.specs.Error.Errors.{Observers}
 use Rattle.combine_base.specs.declared.error.Tracked.{Tracked}
 use Rattle.combine_token.specs.declared.choice.first.FirstResult.{FirstResult}
@@ -31,11 +30,11 @@ pub record Tried {P T R V S S' E C : Type 0} (w : World P T S E) (later : S' →
   pub turned : FirstDid w later valid a first given left old new before after result
 
 -- what a call of the later part promises, after that refusal of the first: how it answers, and what is made of it
-pub record Followed {P T R V S S' E C : Type 0} (step : P → T → P) (errors : Observers T R P E) (counts_failures : Type 0) (cmp : P → P → Ordering) (fresh : S' → Type 0) (law : Type 0) (accepts : S' → Type 0) (b b' : Meaning P T R E V S') (y z : C → View P T → Type 0) (first : Bool) (kept : S') (none left : OrState S S') (refused : Option (Tracked E)) (old new : View P T) (before after : Failures) (result : ParseResult V E) : Type 0 where
+pub record Followed {P T R V S S' E C : Type 0} (step : P → T → P) (errors : Observers T R P E) (counts_failures : Type 0) (joins : E → E → E → Type 0) (fresh : S' → Type 0) (law : Type 0) (accepts : S' → Type 0) (b b' : Meaning P T R E V S') (y z : C → View P T → Type 0) (first : Bool) (kept : S') (none left : OrState S S') (refused : Option (Tracked E)) (old new : View P T) (before after : Failures) (result : ParseResult V E) : Type 0 where
   pub answer : ParseResult V E
   pub stopped : S'
   pub called : Chose (world step errors counts_failures fresh) law accepts b b' y z (record { first = first; state = kept; left = stopped; old = old; new = new; before = before; after = after }) answer
-  pub settled : SettlesLater errors cmp new.is_open refused stopped none left answer result
+  pub settled : SettlesLater errors joins new.is_open refused stopped none left answer result
 
 module _ {Input T R P E V S : Type 0} (i : stream.Ghosts Input T R P E) (observers : Observers T R P E) where
   -- the whole choice, or a half of it
@@ -48,5 +47,5 @@ module _ {Input T R P E V S S' : Type 0} (i : stream.Ghosts Input T R P E) (obse
   TriedCall fresh later valid law a a' first given left input after result = Tried (world i.step observers i.counts_failures fresh) later valid law a a' (i.marks input) (i.marks after) first given left (i.view input) (i.view after) (i.failures input) (i.failures after) result
 
   -- the second, after that refusal of the first
-  abbrev pub FollowedCall : (cmp : P → P → Ordering) (fresh accepts : S' → Type 0) (law : Type 0) (b b' : Meaning P T R E V S') (first : Bool) (kept : S') (none left : OrState S S') (refused : Option (Tracked E)) (input after : Input) → ParseResult V E → Type 0
-  FollowedCall cmp fresh accepts law b b' first kept none left refused input after result = Followed i.step observers i.counts_failures cmp fresh law accepts b b' (i.marks input) (i.marks after) first kept none left refused (i.view input) (i.view after) (i.failures input) (i.failures after) result
+  abbrev pub FollowedCall : (joins : E → E → E → Type 0) (fresh accepts : S' → Type 0) (law : Type 0) (b b' : Meaning P T R E V S') (first : Bool) (kept : S') (none left : OrState S S') (refused : Option (Tracked E)) (input after : Input) → ParseResult V E → Type 0
+  FollowedCall joins fresh accepts law b b' first kept none left refused input after result = Followed i.step observers i.counts_failures joins fresh law accepts b b' (i.marks input) (i.marks after) first kept none left refused (i.view input) (i.view after) (i.failures input) (i.failures after) result

@@ -1,6 +1,5 @@
 -- what comes of the first alternative of a choice, and of those after it
 use Rattle.std.specs.Prelude.{ℕ, ◌<◌, ◌≡◌, Bool, true, false, Option, Some, None, Result, Ok, Err}
-use Rattle.std.specs.declared.cmp.Ordering.{Ordering}
 use Rattle.combine_base.specs.Stream.View.{View, Moves, Takes}
 use Rattle.combine_base.specs.Parser.Reasons.{Reasoned}
 use Rattle.combine_base.specs.Parser.Meaning.{Meaning, begun_refuses}
@@ -147,13 +146,13 @@ pub record MayFollowRefusal {V E : Type 0} (kind : E → Kind) (refused : Option
   pub first : NoFault kind refused
   pub later : PeeksNoFault kind answer
 
-module _ {T R P V E : Type 0} (errors : Observers T R P E) (cmp : P → P → Ordering) where
-  abbrev pub merged_with_first : Option (Tracked E) → ParseResult V E → ParseResult V E → Type 0
-  merged_with_first None answer result = result ≡ answer
-  merged_with_first (Some t) answer result = AfterRefusal errors cmp t.error answer result
+module _ {T R P V E : Type 0} (errors : Observers T R P E) (joins : E → E → E → Type 0) where
+  abbrev pub joined_with_first : Option (Tracked E) → ParseResult V E → ParseResult V E → Type 0
+  joined_with_first None answer result = result ≡ answer
+  joined_with_first (Some t) answer result = AfterRefusal errors joins t.error answer result
 
   -- what the later ones answered, after that refusal of the first
   pub record SettlesLater {S S' : Type 0} (is_open : Bool) (refused : Option (Tracked E)) (kept : S') (before left : OrState S S') (answer result : ParseResult V E) : Type 0 where
-    pub is : merged_with_first refused answer result
+    pub is : joined_with_first refused answer result
     pub asks : NeedsMore errors.kind is_open answer → left ≡ B kept
     pub ends : (NeedsMore errors.kind is_open answer → ⊥) → left ≡ before

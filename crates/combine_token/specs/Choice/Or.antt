@@ -1,8 +1,6 @@
 -- a choice of two parsers, whose state is the running alternative and its state
 use Rattle.std.specs.Prelude.{◌≡◌, List, ◌↔◌}
-use Rattle.std.specs.declared.cmp.Ordering.{Ordering}
 use Rattle.combine_base.specs.Stream.View.{View}
-use Rattle.combine_base.specs.Error.Errors.{Observers}
 use Rattle.combine_base.specs.Error.Items.{ErrorItem}
 use Rattle.combine_base.specs.Parser.Meaning.{Meaning, Reading, Refusing, IsReading, IsSingle, IsMeaning, MeansOne, MeansSame, SameReasons, refusals, refusals_from, refusals_from_same, refusals_same}
 use Rattle.combine_token.specs.Choice.Alternatives.{Together, together_both, together_assoc}
@@ -35,14 +33,14 @@ module _ {P T R E V S S' : Type 0} where
   or_lost a b (A s) v = a.lost s v
   or_lost a b (B t) v = b.lost t v
 
-module _ {P T R E V S S' : Type 0} (errors : Observers T R P E) (cmp : P → P → Ordering) where
+module _ {P T R E V S S' : Type 0} (joins : E → E → E → Type 0) where
   -- the errors from a kept state: each alternative's where it is meant to be refused so; a second that the call comes to begins afresh
   abbrev pub or_refuses_from : Meaning P T R E V S → Meaning P T R E V S' → OrState S S' → Refusing P T E
-  or_refuses_from a b Peek = RefusesOr errors cmp a.whole (refusals a) (refusals b)
-  or_refuses_from a b (A s) = RefusesOr errors cmp (a.rest s) (refusals_from a s) (refusals b)
+  or_refuses_from a b Peek = RefusesOr joins a.whole (refusals a) (refusals b)
+  or_refuses_from a b (A s) = RefusesOr joins (a.rest s) (refusals_from a s) (refusals b)
   or_refuses_from a b (B t) = b.refuses_from t
 
-  -- the first that isn't refused peeked; from a kept state the running alternative goes on
+  -- the first that isn't refused peeked; if both are, their errors are joined so; from a kept state the running alternative goes on
   abbrev pub either_of : Meaning P T R E V S → Meaning P T R E V S' → Meaning P T R E V (OrState S S')
   either_of a b = record {
     whole = or_whole a b;
@@ -52,7 +50,7 @@ module _ {P T R E V S S' : Type 0} (errors : Observers T R P E) (cmp : P → P �
     puts_back = a.puts_back × b.puts_back;
     heapless = a.heapless × b.heapless;
     adds = Together a.adds b.adds;
-    refuses = RefusesOr errors cmp a.whole (refusals a) (refusals b);
+    refuses = RefusesOr joins a.whole (refusals a) (refusals b);
     refuses_from = or_refuses_from a b;
   }
 
@@ -100,8 +98,8 @@ module _ {P T R E V S S' : Type 0} (errors : Observers T R P E) (cmp : P → P �
     lost_same (B t) v = k.lost t v
 
     reasons_same : (s : OrState S S') → SameReasons (or_refuses_from a b s) (or_refuses_from a' b' s)
-    reasons_same Peek = or_same errors cmp a.whole a'.whole (refusals a) (refusals a') (refusals b) (refusals b') h.whole (refusals_same h) (refusals_same k)
-    reasons_same (A s) = or_same errors cmp (a.rest s) (a'.rest s) (refusals_from a s) (refusals_from a' s) (refusals b) (refusals b') (h.rest s) (refusals_from_same h s) (refusals_same k)
+    reasons_same Peek = or_same joins a.whole a'.whole (refusals a) (refusals a') (refusals b) (refusals b') h.whole (refusals_same h) (refusals_same k)
+    reasons_same (A s) = or_same joins (a.rest s) (a'.rest s) (refusals_from a s) (refusals_from a' s) (refusals b) (refusals b') (h.rest s) (refusals_from_same h s) (refusals_same k)
     reasons_same (B t) = k.refuses_from t
 
     pub or_means_same : MeansSame (either_of a b) (either_of a' b')
@@ -125,9 +123,9 @@ pub record StartsSame {P T R E V S S' : Type 0} (m : Meaning P T R E V S) (m' : 
   pub heapless : m.heapless ↔ m'.heapless
   pub adds : (is : List (ErrorItem T R)) → m.adds is ↔ m'.adds is
 
-module _ {P T R E V S S' S'' : Type 0} (errors : Observers T R P E) (cmp : P → P → Ordering) (a : Meaning P T R E V S) (b : Meaning P T R E V S') (c : Meaning P T R E V S'') where
+module _ {P T R E V S S' S'' : Type 0} (joins : E → E → E → Type 0) (a : Meaning P T R E V S) (b : Meaning P T R E V S') (c : Meaning P T R E V S'') where
   -- grouped from the left a choice means what it does grouped from the right
-  pub is_associative : StartsSame (either_of errors cmp (either_of errors cmp a b) c) (either_of errors cmp a (either_of errors cmp b c))
+  pub is_associative : StartsSame (either_of joins (either_of joins a b) c) (either_of joins a (either_of joins b c))
   is_associative = record {
     whole = either_lists_assoc a.whole b.whole c.whole;
     keeps = (λ p. (p.0.0, (p.0.1, p.1)), λ p. ((p.0, p.1.0), p.1.1));

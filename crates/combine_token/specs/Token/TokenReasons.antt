@@ -1,10 +1,9 @@
 -- what the errors of the refusals of these parsers are
 use Rattle.std.specs.Prelude.{ℕ, ◌+◌, ◌≡◌, ◌⊎◌, List, [], ◌∷◌, drop, Bool, true, false, nat_lt, Option}
 use Rattle.std.proofs.Common.{inl, inr}
-use Rattle.std.specs.declared.cmp.Ordering.{Ordering}
 use Rattle.combine_base.specs.Stream.View.{View}
 use Rattle.combine_base.specs.Error.Items.{end_of_input}
-use Rattle.combine_base.specs.Error.Errors.{Observers, JoinedErrors, New, Only, later_position}
+use Rattle.combine_base.specs.Error.Errors.{Observers, New, Only}
 use Rattle.combine_base.specs.Parser.Meaning.{Reading, Refusing, SameReasons}
 use Rattle.combine_base.specs.Parser.Outcome.{Outcome, Refused}
 use Rattle.combine_base.specs.Refusals.{HasItems}
@@ -56,15 +55,15 @@ abbrev pub begins_at_item : {S : Type 0} → (S → ℕ) → Bool → S → ℕ
 begins_at_item matched true s = 0
 begins_at_item matched false s = matched s
 
-module _ {T R P E : Type 0} (s : Observers T R P E) (cmp : P → P → Ordering) where
-  -- both were refused peeked, the second from where the first had begun, and their errors are merged in order
+module _ {P T E : Type 0} (joins : E → E → E → Type 0) where
+  -- both were refused peeked, the second from where the first had begun, and their errors are joined so
   pub record RefusesBoth (first second : Refusing P T E) (v w : View P T) (e : E) : Type 0 where
     pub own : E
     pub other : E
     pub left : View P T
     pub refused_first : first v left false own
     pub refused_second : second v w false other
-    pub joined : JoinedErrors s (later_position cmp (s.position own) (s.position other)) own other e
+    pub joined : joins own other e
 
   module _ {V : Type 0} (r : Reading P T V) (first second : Refusing P T E) (v w : View P T) where
     -- a committed refusal is the first's; or the second's, where the first has a peeked refusal on this view

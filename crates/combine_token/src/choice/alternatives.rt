@@ -1,5 +1,6 @@
 //! Alternatives that are lent: a parser, or a pair of two halves of a choice. Our own: `or` and the choices over tuples are made of it.
 ghost use Rattle.std.specs.Prelude.{◌≡◌, refl};
+ghost use Rattle.combine_token.specs.Choice.Alternatives.{both_merged};
 ghost use Rattle.combine_token.specs.Choice.ChoiceCalls.{FollowedCall, TriedCall};
 ghost use Rattle.combine_token.specs.Choice.FirstAlternative.{NoFault, first_valid};
 ghost use Rattle.combine_token.specs.Choice.Or.{either_of, or_is_meaning, or_valid};
@@ -95,7 +96,7 @@ impl<Input: Stream, P: Parser<Input>> Alternatives<Input> for &mut P {
 
 /// Runs the first half of a choice, which goes on, or begins, unless the second is running.
 #[inline(always)]
-fn choose_first_half<Input: Stream, L: Alternatives<Input>, S: Default + Drop, M: ParseMode>(
+pub fn choose_first_half<Input: Stream, L: Alternatives<Input>, S: Default + Drop, M: ParseMode>(
     half: &mut L,
     mode: M,
     input: &mut Input,
@@ -118,7 +119,7 @@ fn choose_first_half<Input: Stream, L: Alternatives<Input>, S: Default + Drop, M
 
 /// Runs the second half of a choice, which goes on from that state, after that refusal of the first.
 #[inline(always)]
-fn choose_second_half<Input: Stream, R: Alternatives<Input>, S: Drop, M: ParseMode>(
+pub fn choose_second_half<Input: Stream, R: Alternatives<Input>, S: Drop, M: ParseMode>(
     half: &mut R,
     mode: M,
     input: &mut Input,
@@ -130,7 +131,7 @@ fn choose_second_half<Input: Stream, R: Alternatives<Input>, S: Drop, M: ParseMo
     requires valid { R.valid kept }
     requires refused { NoFault Input.Error.observers.kind refused }
     ensures lent { R.same half.old half.new }
-    ensures followed { FollowedCall Input.StreamOnce Input.Error.observers Input.Position.cmp R.State.is_default R.valid (R.lawful half.new) (R.meaning half.old) (R.meaning half.new) (M.first mode) kept state.old state.new refused input.old input.new result }
+    ensures followed { FollowedCall Input.StreamOnce Input.Error.observers (both_merged Input.Error.observers Input.Position.cmp) R.State.is_default R.valid (R.lawful half.new) (R.meaning half.old) (R.meaning half.new) (M.first mode) kept state.old state.new refused input.old input.new result }
 {
     let mut kept = kept;
     let answer = half.choose::<_, SecondHalf>(mode, input, &mut kept);
@@ -153,7 +154,7 @@ impl<
 
     ghost valid = { or_valid L.valid R.valid };
 
-    ghost meaning = { λ p. either_of Input.Error.observers Input.Position.cmp (L.meaning p.0) (R.meaning p.1) };
+    ghost meaning = { λ p. either_of (both_merged Input.Error.observers Input.Position.cmp) (L.meaning p.0) (R.meaning p.1) };
 
     ghost same = { λ p q. L.same p.0 q.0 × R.same p.1 q.1 };
 
@@ -176,5 +177,5 @@ impl<
 
     ghost unchanged = { λ p. (L.unchanged p.0, R.unchanged p.1) };
 
-    ghost laws = { λ p l. or_is_meaning Input.Error.observers Input.Position.cmp L.State.is_default L.valid R.State.is_default R.valid _ _ (L.laws p.0 l.0) (R.laws p.1 l.1) };
+    ghost laws = { λ p l. or_is_meaning (both_merged Input.Error.observers Input.Position.cmp) L.State.is_default L.valid R.State.is_default R.valid _ _ (L.laws p.0 l.0) (R.laws p.1 l.1) };
 }

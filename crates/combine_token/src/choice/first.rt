@@ -1,6 +1,7 @@
 //! The first part of a choice, and what follows it. Our own: what `or` and the choices over tuples are made of.
 ghost use Rattle.std.specs.Prelude.{◌≡◌, false};
 ghost use Rattle.combine_base.specs.Stream.Calls.{Passes};
+ghost use Rattle.combine_token.specs.Choice.Alternatives.{both_merged};
 ghost use Rattle.combine_token.specs.Choice.FirstAlternative.{JudgesFirst, RunsAlternative, SettlesLater, MayFollowRefusal};
 
 use super::{OrState, after_refusal};
@@ -82,7 +83,7 @@ pub fn settle_second<O, Input: Stream, S: Drop, T: Drop>(
     state: &mut OrState<S, T>,
 ) -> ParseResult<O, Input::Error>
     requires { MayFollowRefusal Input.Error.observers.kind refused answer }
-    ensures { SettlesLater Input.Error.observers Input.Position.cmp (Input.view input.now).is_open refused kept state.old state.new answer result }
+    ensures { SettlesLater Input.Error.observers (both_merged Input.Error.observers Input.Position.cmp) (Input.view input.now).is_open refused kept state.old state.new answer result }
 {
     if asks_for_more(input, &answer) {
         *state = OrState::B(kept);

@@ -1,5 +1,6 @@
 //! The parsers that the functions of `choice` return.
 ghost use Rattle.std.specs.Prelude.{◌≡◌};
+ghost use Rattle.combine_token.specs.Choice.Alternatives.{both_merged};
 ghost use Rattle.combine_token.specs.Choice.Optional.{optional, optional_is_meaning, optional_means_one};
 ghost use Rattle.combine_token.specs.Choice.Or.{either_of, or_is_meaning, or_means_one, or_valid};
 
@@ -27,15 +28,15 @@ impl<Input: Stream, P: Parser<Input>, Q: Parser<Input, Output = P::Output>> Pars
 
     ghost valid = { or_valid P.valid Q.valid };
 
-    ghost meaning = { λ p. either_of Input.Error.observers Input.Position.cmp (P.meaning p.0) (Q.meaning p.1) };
+    ghost meaning = { λ p. either_of (both_merged Input.Error.observers Input.Position.cmp) (P.meaning p.0) (Q.meaning p.1) };
 
     ghost parts = { λ _. 1 };
 
     ghost default_valid = { λ s d. rw d tt };
 
-    ghost laws = { λ p l. or_is_meaning Input.Error.observers Input.Position.cmp P.PartialState.is_default P.valid Q.PartialState.is_default Q.valid _ _ (P.laws p.0 l.0) (Q.laws p.1 l.1) };
+    ghost laws = { λ p l. or_is_meaning (both_merged Input.Error.observers Input.Position.cmp) P.PartialState.is_default P.valid Q.PartialState.is_default Q.valid _ _ (P.laws p.0 l.0) (Q.laws p.1 l.1) };
 
-    ghost single = { λ p l d. or_means_one Input.Error.observers Input.Position.cmp P.PartialState.is_default P.valid Q.PartialState.is_default Q.valid _ _ (P.single p.0 l.0 d.0) (Q.single p.1 l.1 d.1) };
+    ghost single = { λ p l d. or_means_one (both_merged Input.Error.observers Input.Position.cmp) P.PartialState.is_default P.valid Q.PartialState.is_default Q.valid _ _ (P.single p.0 l.0 d.0) (Q.single p.1 l.1 d.1) };
 
     #[inline(always)]
     fn parse_mode<M: ParseMode>(

@@ -1,7 +1,7 @@
 //! Lists of tokens, matched one by one.
 ghost use Rattle.std.specs.Prelude.{◌≡◌};
 ghost use Rattle.combine_base.specs.Stream.Calls.{Passes};
-ghost use Rattle.combine_token.specs.Token.Lists.IteratedLists.{IsIterated};
+ghost use Rattle.combine_token.specs.Token.Lists.IteratedLists.{IsItemAt, IsIterated};
 ghost use Rattle.combine_token.specs.Token.Lists.ListCalls.{MatchesCall, MismatchesCall};
 ghost use Rattle.combine_token.specs.Token.TokenParsers.{tokens_cmp_of, tokens_of};
 
@@ -74,7 +74,7 @@ pub fn tokens_cmp<C, T, Input>(tokens: T, cmp: C) -> TokensCmp<C, T, Input>
 
 /// Makes one call of a parser of a list of tokens, whose value is a clone of `value`. Our own.
 ///
-/// `expected` is what the error of a committed mismatch says was expected, if it says so. `cmp` may be called on every item and token. An iterator of each clone of the list has to give equally many items, fewer than 2^64.
+/// `expected` is what the error of a committed mismatch says was expected, if it says so. `cmp` may be called on every item of the list with every token. An iterator of each clone of the list has to give equally many items, fewer than 2^64.
 ///
 /// # Errors
 ///
@@ -94,7 +94,7 @@ where
     T: Clone + IntoIterator,
     T::Item: Drop,
     V: Clone,
-    requires callable { (x : T.Item) (t : Input.Token) → C.callable cmp.now x t }
+    requires callable { (n : _) (x : T.Item) (t : Input.Token) → IsItemAt T.is_clone T.into_iter_gives T.IntoIter.next_gives list.now n x → C.callable cmp.now x t }
     requires list { IsIterated T.is_clone T.into_iter_gives T.IntoIter.next_gives list.now T.IntoIter.can_next T.IntoIter.remaining }
     ensures passes { Passes (Input.marks input.old) (Input.marks input.new) (Input.failures input.old) (Input.failures input.new) }
     ensures answers { MatchesCall Input.StreamOnce Input.Error.observers T.Clone T.IntoIterator T.IntoIter.Iterator list.now (C.returns cmp.now) V.Clone value.now expected.entry (M.first mode) state.old state.new input.old input.new result }

@@ -4,7 +4,7 @@ ghost use Rattle.combine_base.specs.Error.Errors.{AddsNothing, Only};
 ghost use Rattle.combine_base.specs.Error.Items.{Expected, shown, NoText};
 ghost use Rattle.combine_token.specs.Token.Lists.TokenLists.{ComparesOnce};
 ghost use Rattle.combine_token.specs.Token.Lists.ListMeaning.{token_list, token_list_is_meaning, token_list_means_one};
-ghost use Rattle.combine_token.specs.Token.Lists.IteratedLists.{IsIterated, iterated_tokens, iterated_ends_once};
+ghost use Rattle.combine_token.specs.Token.Lists.IteratedLists.{IsItemAt, IsIterated, iterated_tokens, iterated_ends_once};
 
 use crate::token::lists::match_list;
 use combine_base::error::{ErrorOffset, Info, ParseError, ParseResult, Tracked};
@@ -73,7 +73,7 @@ where
 {
     type PartialState = TokensState;
 
-    ghost lawful = { λ p. ((x : T.Item) (t : Input.Token) → C.callable p.cmp x t) × IsIterated T.is_clone T.into_iter_gives T.IntoIter.next_gives p.tokens T.IntoIter.can_next T.IntoIter.remaining };
+    ghost lawful = { λ p. ((n : _) (x : T.Item) (t : Input.Token) → IsItemAt T.is_clone T.into_iter_gives T.IntoIter.next_gives p.tokens n x → C.callable p.cmp x t) × IsIterated T.is_clone T.into_iter_gives T.IntoIter.next_gives p.tokens T.IntoIter.can_next T.IntoIter.remaining };
 
     ghost determined = { λ p. ComparesOnce (iterated_tokens T.is_clone T.into_iter_gives T.IntoIter.next_gives p.tokens (C.returns p.cmp)) };
 
@@ -140,7 +140,7 @@ where
 {
     type PartialState = TokensState;
 
-    ghost lawful = { λ p. ((x : T.Item) (t : Input.Token) → C.callable p.cmp x t) × IsIterated T.is_clone T.into_iter_gives T.IntoIter.next_gives p.tokens T.IntoIter.can_next T.IntoIter.remaining };
+    ghost lawful = { λ p. ((n : _) (x : T.Item) (t : Input.Token) → IsItemAt T.is_clone T.into_iter_gives T.IntoIter.next_gives p.tokens n x → C.callable p.cmp x t) × IsIterated T.is_clone T.into_iter_gives T.IntoIter.next_gives p.tokens T.IntoIter.can_next T.IntoIter.remaining };
 
     ghost determined = { λ p. ComparesOnce (iterated_tokens T.is_clone T.into_iter_gives T.IntoIter.next_gives p.tokens (C.returns p.cmp)) };
 

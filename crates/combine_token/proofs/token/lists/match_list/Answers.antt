@@ -10,6 +10,9 @@ use Rattle.combine_token.proofs.Lists.ListReasons.{accepted_reasons, mismatch_re
 use Rattle.combine_base.specs.declared.stream.Kind.TheVariants as kinds
 use Rattle.combine_token.proofs.token.lists.match_list.Goals as goal
 
+pub fits-requires : goal.fits-requires
+fits-requires g c = c.requires.callable _ _ _ (stands_there c.items.invariant.reached c.in-Some.ensures.steps)
+
 pub items-init : goal.items-init
 items-init g c =
     let i = c.into_iter-item-iterator.ensures.into_iter_gives in
