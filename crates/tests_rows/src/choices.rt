@@ -12,14 +12,14 @@ use combine::stream::position::TextStream;
 use combine::stream::{MaybePartialStream, Stream};
 use std::alloc::{AllocError, Global};
 
-fn arrays<Input: Stream<Token = char>, D: Driver<Input>>(rows: &mut D) -> Result<(), AllocError>
+fn arrays<Input: Stream<Token = char>, D: Driver<Input>>(rows: &mut D)
 where
     Input::Error: ParseError<char, Input::Range, Input::Position>,
 {
     rows.check(
         choice([string("one"), string("two"), string("three")]),
         &[("three", "refused committed")],
-    )?;
+    );
     rows.check(
         choice([
             attempt(string("one")),
@@ -27,11 +27,11 @@ where
             attempt(string("three")),
         ]),
         &[("three", "three taken 5 committed")],
-    )?;
+    );
     rows.check(choice([token('a'); 0]), &[("a", "refused peeked")])
 }
 
-fn slices<Input: Stream<Token = char>, D: Driver<Input>>(rows: &mut D) -> Result<(), AllocError>
+fn slices<Input: Stream<Token = char>, D: Driver<Input>>(rows: &mut D)
 where
     Input::Error: ParseError<char, Input::Range, Input::Position>,
 {
@@ -42,10 +42,7 @@ where
     )
 }
 
-fn of_three<Input: Stream<Token = char>, D: Driver<Input>>(
-    alloc: Global,
-    rows: &mut D,
-) -> Result<(), AllocError>
+fn of_three<Input: Stream<Token = char>, D: Driver<Input>>(alloc: Global, rows: &mut D)
 where
     Input::Error: ParseError<char, Input::Range, Input::Position>,
 {
@@ -66,9 +63,8 @@ where
 fn choices(rt: HostRuntime) -> Result<(), AllocError> {
     let alloc = rt.alloc();
     let mut rows = Rows::new(alloc);
-    arrays::<MaybePartialStream<TextStream<'static>>, Rows>(&mut rows)?;
-    slices::<MaybePartialStream<TextStream<'static>>, Rows>(&mut rows)?;
-    of_three::<MaybePartialStream<TextStream<'static>>, Rows>(alloc, &mut rows)?;
-    rows.finish(&rt);
-    Ok(())
+    arrays::<MaybePartialStream<TextStream<'static>>, Rows>(&mut rows);
+    slices::<MaybePartialStream<TextStream<'static>>, Rows>(&mut rows);
+    of_three::<MaybePartialStream<TextStream<'static>>, Rows>(alloc, &mut rows);
+    rows.finish(&rt)
 }

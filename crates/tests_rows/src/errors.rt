@@ -13,68 +13,68 @@ use combine::stream::Stream;
 use combine::stream::position::TextStream;
 use std::alloc::{AllocError, Global};
 
-fn leaves<Input: Stream<Token = char>, D: Driver<Input>>(rows: &mut D) -> Result<(), AllocError>
+fn leaves<Input: Stream<Token = char>, D: Driver<Input>>(rows: &mut D)
 where
     Input::Error: ParseError<char, Input::Range, Input::Position>,
 {
+    let a = token('a');
+    let b = token('b');
     rows.check(
         eof(),
         &[(
             "x",
-            "Parse error at line: 1, column: 1; Unexpected `x`; Expected end of input; ",
+            "Parse error at line: 1, column: 1\nUnexpected `x`\nExpected end of input\n",
         )],
-    )?;
+    );
     rows.check(
         string("abc"),
         &[(
             "bc",
-            "Parse error at line: 1, column: 1; Unexpected `b`; Expected abc; ",
+            "Parse error at line: 1, column: 1\nUnexpected `b`\nExpected abc\n",
         )],
-    )?;
+    );
     rows.check(
-        or(token('a'), token('b')),
+        or(a, b),
         &[(
             "c",
-            "Parse error at line: 1, column: 1; Unexpected `c`; Expected `a` or `b`; ",
+            "Parse error at line: 1, column: 1\nUnexpected `c`\nExpected `a` or `b`\n",
         )],
-    )?;
+    );
     rows.check(
-        (token('a'), token('b')),
+        (a, b),
         &[(
             "ac",
-            "Parse error at line: 1, column: 2; Unexpected `c`; Expected `b`; ",
+            "Parse error at line: 1, column: 2\nUnexpected `c`\nExpected `b`\n",
         )],
     )
 }
 
-fn changed<Input: Stream<Token = char>, D: Driver<Input>>(rows: &mut D) -> Result<(), AllocError>
+fn changed<Input: Stream<Token = char>, D: Driver<Input>>(rows: &mut D)
 where
     Input::Error: ParseError<char, Input::Range, Input::Position>,
 {
+    let a = token('a');
     rows.check(
-        expected(token('a'), "letter a"),
+        expected(a, "letter a"),
         &[(
             "b",
-            "Parse error at line: 1, column: 1; Unexpected `b`; Expected letter a; ",
+            "Parse error at line: 1, column: 1\nUnexpected `b`\nExpected letter a\n",
         )],
-    )?;
+    );
     rows.check(
-        message(token('a'), "need a"),
+        message(a, "need a"),
         &[(
             "b",
-            "Parse error at line: 1, column: 1; Unexpected `b`; Expected `a`; need a; ",
+            "Parse error at line: 1, column: 1\nUnexpected `b`\nExpected `a`\nneed a\n",
         )],
-    )?;
+    );
     rows.check(
-        silent(token('a')),
-        &[("b", "Parse error at line: 1, column: 1; Unexpected `b`; ")],
+        silent(a),
+        &[("b", "Parse error at line: 1, column: 1\nUnexpected `b`\n")],
     )
 }
 
-fn repeated<Input: Stream<Token = char>, D: Driver<Input>>(
-    alloc: Global,
-    rows: &mut D,
-) -> Result<(), AllocError>
+fn repeated<Input: Stream<Token = char>, D: Driver<Input>>(alloc: Global, rows: &mut D)
 where
     Input::Error: ParseError<char, Input::Range, Input::Position>,
 {
@@ -82,29 +82,29 @@ where
         sep_by1::<Vec<char>, _, _>(alloc, digit(), token(',')),
         &[(
             "",
-            "Parse error at line: 1, column: 1; Unexpected end of input; Expected digit; ",
+            "Parse error at line: 1, column: 1\nUnexpected end of input\nExpected digit\n",
         )],
-    )?;
+    );
     rows.check(
         count_min_max::<Vec<char>, _>(alloc, 2, 2, token('a')),
         &[(
             "ab",
-            "Parse error at line: 1, column: 2; expected 1 more elements; ",
+            "Parse error at line: 1, column: 2\nexpected 1 more elements\n",
         )],
-    )?;
+    );
     rows.check(
         many::<Vec<char>, _>(alloc, value('1')),
         &[(
             "a",
-            "Parse error at line: 1, column: 1; repetition takes nothing; ",
+            "Parse error at line: 1, column: 1\nrepetition takes nothing\n",
         )],
-    )?;
+    );
     let nothing: [Token<Input, char>; 0] = [];
     rows.check(
         choice(nothing),
         &[(
             "a",
-            "Parse error at line: 1, column: 1; Unexpected `a`; parser choice is empty; ",
+            "Parse error at line: 1, column: 1\nUnexpected `a`\nparser choice is empty\n",
         )],
     )
 }
@@ -112,9 +112,8 @@ where
 #[test]
 fn errors(rt: HostRuntime) -> Result<(), AllocError> {
     let mut rows = Rows::new(rt.alloc());
-    leaves::<easy::Stream<TextStream<'static>>, Rows>(&mut rows)?;
-    changed::<easy::Stream<TextStream<'static>>, Rows>(&mut rows)?;
-    repeated::<easy::Stream<TextStream<'static>>, Rows>(rt.alloc(), &mut rows)?;
-    rows.finish(&rt);
-    Ok(())
+    leaves::<easy::Stream<TextStream<'static>>, Rows>(&mut rows);
+    changed::<easy::Stream<TextStream<'static>>, Rows>(&mut rows);
+    repeated::<easy::Stream<TextStream<'static>>, Rows>(rt.alloc(), &mut rows);
+    rows.finish(&rt)
 }

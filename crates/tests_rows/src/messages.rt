@@ -1,6 +1,6 @@
 //! A session, and messages that a decoder gives.
 
-use crate::show::Show;
+use crate::show::{Show, said};
 use combine::decode::{Batch, BatchEnd, DecodeError, frame};
 use combine::parser::byte::lower;
 use combine::parser::repeat::many1;
@@ -38,9 +38,8 @@ fn show_end(alloc: Global, end: BatchEnd, text: &mut String) -> Result<(), Alloc
     match end {
         BatchEnd::More => text.push_str(" more"),
         BatchEnd::Refused { taken, committed } => {
-            let said = format!(in alloc; " refused after {taken}")?;
-            text.push_str(said.as_str())?;
-            text.push_str(if committed { " committed" } else { " peeked" })
+            let end = format!(in alloc; " refused after {taken}{}", said(committed))?;
+            text.push_str(end.as_str())
         }
         BatchEnd::EmptyMessage => text.push_str(" empty message"),
     }

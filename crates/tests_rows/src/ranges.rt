@@ -1,6 +1,6 @@
 //! Ranges and searches over windows, and integers of bytes.
 
-use crate::rows::{Driver, Rows};
+use crate::rows::{Driver, Lasting, Rows};
 use crate::show::Show;
 use combine::error::{DetailedError, ParseError};
 use combine::parser::byte::num::{be_u16, be_u32, le_u32};
@@ -21,9 +21,7 @@ fn is_digit(byte: u8) -> bool {
     byte.is_ascii_digit()
 }
 
-fn beginnings<Input: Stream<Token = u8> + RangeStream, D: Driver<Input>>(
-    rows: &mut D,
-) -> Result<(), AllocError>
+fn beginnings<Input: Stream<Token = u8> + RangeStream, D: Driver<Input>>(rows: &mut D)
 where
     Input::Range: Range + Show,
 {
@@ -33,61 +31,61 @@ where
             ("123abc", "123 taken 3 committed"),
             ("abc", "refused peeked"),
         ],
-    )?;
-    rows.check(take_while(is_digit), &[("abc", " taken 0 peeked")])?;
+    );
+    rows.check(take_while(is_digit), &[("abc", " taken 0 peeked")]);
     rows.check(
         take(4),
         &[
             ("123abc", "123a taken 4 committed"),
             ("abc", "refused peeked"),
         ],
-    )?;
-    rows.check(take(usize::MAX), &[("abc", "refused peeked")])?;
+    );
+    rows.check(take(usize::MAX), &[("abc", "refused peeked")]);
     rows.check(length_prefix(value(u128::MAX)), &[("a", "refused peeked")])
 }
 
-fn searches<Input: Stream<Token = u8> + ByteStream, D: Driver<Input>>(
+/// Rows of what stands before these bytes.
+fn before<Input: Stream<Token = u8> + ByteStream, D: Driver<Input>, T: Lasting>(
     rows: &mut D,
-) -> Result<(), AllocError>
+    bytes: &'static [u8],
+    wanted: &[(T, T)],
+)
 where
     Input::Range: ByteRange + Show,
 {
-    rows.check(
-        take_until_bytes(b"\r\n"),
-        &[("abc\r\n", "abc taken 3 committed")],
-    )?;
-    rows.check(
-        take_until_bytes(b"aaaa"),
-        &[("aaabaaaa", "aaab taken 4 committed")],
-    )?;
-    rows.check(
-        take_until_bytes(b"c12"),
-        &[("abc123", "ab taken 2 committed")],
-    )?;
-    rows.check(take_until_bytes(b""), &[("abc123", " taken 0 peeked")])?;
+    rows.check(take_until_bytes(bytes), wanted)
+}
+
+fn searches<Input: Stream<Token = u8> + ByteStream, D: Driver<Input>>(rows: &mut D)
+where
+    Input::Range: ByteRange + Show,
+{
+    before(rows, b"\r\n", &[("abc\r\n", "abc taken 3 committed")]);
+    before(rows, b"aaaa", &[("aaabaaaa", "aaab taken 4 committed")]);
+    before(rows, b"c12", &[("abc123", "ab taken 2 committed")]);
+    before(rows, b"", &[("abc123", " taken 0 peeked")]);
     rows.check(
         take_until_byte(b'x'),
         &[("", "refused peeked"), ("abc", "refused committed")],
-    )?;
+    );
     rows.check(
         take_until_byte2(b'\r', b'\n'),
         &[("Hello, world\n", "Hello, world taken 12 committed")],
     )
 }
 
-fn lengths<Input: Stream<Token = u8> + RangeStream, D: Driver<Input>>(
-    rows: &mut D,
-) -> Result<(), AllocError>
+fn lengths<Input: Stream<Token = u8> + RangeStream, D: Driver<Input>>(rows: &mut D)
 where
     Input::Range: Range + Show,
     Input::Error: ParseError<u8, Input::Range, Input::Position>,
 {
+    let digit = satisfy(is_digit);
     rows.check(
         length_prefix(be_u16()),
         &[("\0\u{3}1234", "123 taken 5 committed")],
-    )?;
-    let fraction = (attempt(token(b'.')), skip_many1(satisfy(is_digit)));
-    let digits = (skip_many1(satisfy(is_digit)), optional(fraction));
+    );
+    let fraction = (attempt(token(b'.')), skip_many1(digit));
+    let digits = (skip_many1(digit), optional(fraction));
     rows.check(
         recognize_with_value(map(digits, |parts: ((), Option<(u8, ())>)| parts.1.is_some())),
         &[
@@ -97,37 +95,52 @@ where
     )
 }
 
+/// Rows of what stands before this text.
+fn before_text<
+    Input: Stream<Token = char> + RangeStream<Range = &'static str>,
+    D: Driver<Input>,
+    T: Lasting,
+>(rows: &mut D, text: &'static str, wanted: &[(T, T)])
+where
+    Input::Error: ParseError<char, &'static str, Input::Position>,
+{
+    rows.check(take_until_range(text), wanted)
+}
+
 fn texts<Input: Stream<Token = char> + RangeStream<Range = &'static str>, D: Driver<Input>>(
     rows: &mut D,
-) -> Result<(), AllocError>
+)
 where
     Input::Error: ParseError<char, &'static str, Input::Position>,
 {
     rows.check(
         range(""),
         &[("a", " taken 0 committed"), ("", " taken 0 committed")],
-    )?;
-    rows.check(range("hello"), &[("hell\u{ee} world", "refused peeked")])?;
-    rows.check(take(1), &[("\u{ee}", "refused peeked")])?;
+    );
+    rows.check(range("hello"), &[("hell\u{ee} world", "refused peeked")]);
+    rows.check(take(1), &[("\u{ee}", "refused peeked")]);
     rows.check(
         length_prefix(map(token('2'), |_two: char| 2usize)),
         &[("2a\u{e9}", "refused committed")],
-    )?;
-    rows.check(
-        take_until_range("\""),
+    );
+    before_text(
+        rows,
+        "\"",
         &[("Foo baz bar quux\"", "Foo baz bar quux taken 16 committed")],
-    )?;
-    rows.check(
-        take_until_range("\u{1f980}"),
+    );
+    before_text(
+        rows,
+        "\u{1f980}",
         &[("\u{1f603} a \u{1f980}", "\u{1f603} a  taken 4 committed")],
-    )?;
-    rows.check(
-        take_until_range("==="),
+    );
+    before_text(
+        rows,
+        "===",
         &[(
             "if ((pointless_comparison == 3) === true) {",
             "if ((pointless_comparison == 3)  taken 32 committed",
         )],
-    )?;
+    );
     let plain = take_while1(|letter: char| letter != '"' && letter != '\\');
     rows.check(
         escaped(plain, '\\', one_of("nr\"\\".chars())),
@@ -135,10 +148,7 @@ where
     )
 }
 
-fn numbers<Input: Stream<Token = char>, E, D: Driver<Input>>(
-    alloc: Global,
-    rows: &mut D,
-) -> Result<(), AllocError>
+fn numbers<Input: Stream<Token = char>, E, D: Driver<Input>>(alloc: Global, rows: &mut D)
 where
     Input::Error: DetailedError<char, Input::Range, Input::Position, StreamError = E>,
 {
@@ -151,9 +161,9 @@ where
     )
 }
 
-fn integers<Input: Stream<Token = u8>, D: Driver<Input>>(rows: &mut D) -> Result<(), AllocError> {
-    rows.check(be_u16(), &[("\u{1}\u{2}", "258 taken 2 committed")])?;
-    rows.check(be_u32(), &[("\0\u{1}\0", "refused peeked")])?;
+fn integers<Input: Stream<Token = u8>, D: Driver<Input>>(rows: &mut D) {
+    rows.check(be_u16(), &[("\u{1}\u{2}", "258 taken 2 committed")]);
+    rows.check(be_u32(), &[("\0\u{1}\0", "refused peeked")]);
     rows.check(
         le_u32(),
         &[("\u{78}\u{56}\u{34}\u{12}", "305419896 taken 4 committed")],
@@ -163,12 +173,11 @@ fn integers<Input: Stream<Token = u8>, D: Driver<Input>>(rows: &mut D) -> Result
 #[test]
 fn ranges(rt: HostRuntime) -> Result<(), AllocError> {
     let mut rows = Rows::new(rt.alloc());
-    beginnings::<MaybePartialStream<SliceStream<'static, u8>>, Rows>(&mut rows)?;
-    searches::<MaybePartialStream<SliceStream<'static, u8>>, Rows>(&mut rows)?;
-    lengths::<MaybePartialStream<SliceStream<'static, u8>>, Rows>(&mut rows)?;
-    texts::<MaybePartialStream<TextStream<'static>>, Rows>(&mut rows)?;
-    numbers::<MaybePartialStream<TextStream<'static>>, _, Rows>(rt.alloc(), &mut rows)?;
-    integers::<MaybePartialStream<SliceStream<'static, u8>>, Rows>(&mut rows)?;
-    rows.finish(&rt);
-    Ok(())
+    beginnings::<MaybePartialStream<SliceStream<'static, u8>>, Rows>(&mut rows);
+    searches::<MaybePartialStream<SliceStream<'static, u8>>, Rows>(&mut rows);
+    lengths::<MaybePartialStream<SliceStream<'static, u8>>, Rows>(&mut rows);
+    texts::<MaybePartialStream<TextStream<'static>>, Rows>(&mut rows);
+    numbers::<MaybePartialStream<TextStream<'static>>, _, Rows>(rt.alloc(), &mut rows);
+    integers::<MaybePartialStream<SliceStream<'static, u8>>, Rows>(&mut rows);
+    rows.finish(&rt)
 }

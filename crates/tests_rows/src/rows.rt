@@ -24,15 +24,24 @@ type Row = (&'static str, &'static str);
 
 /// A way to go through the rows of a parser over one sort of stream.
 pub trait Driver<Input: Stream> {
-    /// Goes through the rows of a parser: each an input, and what is given for it.
-    fn check<P: Parser<Input> + Drop, T: Lasting>(
-        &mut self,
-        parser: P,
-        rows: &[(T, T)],
-    ) -> Result<(), AllocError>
+    /// Compares a row with what a parser gives for it.
+    fn check_row<P: Parser<Input>>(&mut self, parser: &mut P, row: Row)
     where
         P::Output: Show,
-        requires { P.lawful parser };
+        requires { P.lawful parser.old }
+        ensures { P.lawful parser.new };
+
+    /// Goes through the rows of a parser: each an input, and what is given for it.
+    final fn check<P: Parser<Input> + Drop, T: Lasting>(&mut self, parser: P, rows: &[(T, T)])
+    where
+        P::Output: Show,
+        requires { P.lawful parser }
+    {
+        let mut parser = parser;
+        for row in rows {
+            self.check_row(&mut parser, (row.0.text(), row.1.text()));
+        }
+    }
 }
 
 /// The rows for which something else was given.
@@ -40,6 +49,7 @@ pub trait Driver<Input: Stream> {
 pub struct Rows {
     alloc: Global,
     wrong: Vec<String>,
+    memory: Result<(), AllocError>,
 }
 
 impl Rows {
@@ -48,13 +58,26 @@ impl Rows {
         Rows {
             alloc,
             wrong: Vec::new(alloc),
+            memory: Ok(()),
         }
     }
 
     /// Fails where something else was given for a row.
-    pub fn finish(self, rt: &impl Abort) {
+    ///
+    /// # Errors
+    ///
+    /// A row that found no memory.
+    pub fn finish(self, rt: &impl Abort) -> Result<(), AllocError> {
         for row in self.wrong {
             assert_eq!(rt; row.as_str(), "");
+        }
+        self.memory
+    }
+
+    /// Keeps whether a row found no memory.
+    fn keep(&mut self, compared: Result<(), AllocError>) {
+        if compared.is_err() {
+            self.memory = compared;
         }
     }
 
@@ -106,61 +129,44 @@ impl Rows {
 }
 
 impl Driver<MaybePartialStream<TextStream<'static>>> for Rows {
-    fn check<P: Parser<MaybePartialStream<TextStream<'static>>> + Drop, T: Lasting>(
+    fn check_row<P: Parser<MaybePartialStream<TextStream<'static>>>>(
         &mut self,
-        parser: P,
-        rows: &[(T, T)],
-    ) -> Result<(), AllocError>
+        parser: &mut P,
+        row: Row,
+    )
     where
         P::Output: Show,
     {
-        let mut parser = parser;
-        for row in rows {
-            let row = (row.0.text(), row.1.text());
-            self.by_windows(&mut parser, row, row.0)?;
-        }
-        Ok(())
+        let compared = self.by_windows(parser, row, row.0);
+        self.keep(compared);
     }
 }
 
 impl Driver<MaybePartialStream<SliceStream<'static, u8>>> for Rows {
-    fn check<P: Parser<MaybePartialStream<SliceStream<'static, u8>>> + Drop, T: Lasting>(
+    fn check_row<P: Parser<MaybePartialStream<SliceStream<'static, u8>>>>(
         &mut self,
-        parser: P,
-        rows: &[(T, T)],
-    ) -> Result<(), AllocError>
+        parser: &mut P,
+        row: Row,
+    )
     where
         P::Output: Show,
     {
-        let mut parser = parser;
-        for row in rows {
-            let row = (row.0.text(), row.1.text());
-            self.by_windows(&mut parser, row, row.0.as_bytes())?;
-        }
-        Ok(())
+        let compared = self.by_windows(parser, row, row.0.as_bytes());
+        self.keep(compared);
     }
 }
 
-/// What an error says is one line.
 impl Driver<easy::Stream<TextStream<'static>>> for Rows {
-    fn check<P: Parser<easy::Stream<TextStream<'static>>> + Drop, T: Lasting>(
-        &mut self,
-        parser: P,
-        rows: &[(T, T)],
-    ) -> Result<(), AllocError>
+    fn check_row<P: Parser<easy::Stream<TextStream<'static>>>>(&mut self, parser: &mut P, row: Row)
     where
         P::Output: Show,
     {
-        let mut parser = parser;
-        for row in rows {
-            let row = (row.0.text(), row.1.text());
-            self.by_easy_parse(&mut parser, row)?;
-        }
-        Ok(())
+        let compared = self.by_easy_parse(parser, row);
+        self.keep(compared);
     }
 }
 
-/// Returns the value that `easy_parse` gives for a text, or what its error says, in one line.
+/// Returns the value that `easy_parse` gives for a text, or what its error says.
 fn easily<P: Parser<easy::Stream<TextStream<'static>>>>(
     alloc: Global,
     parser: &mut P,
@@ -171,18 +177,14 @@ where
     requires { P.lawful parser.old }
     ensures { P.lawful parser.new }
 {
-    let mut given = String::new(alloc);
     match parser.easy_parse(alloc, position::Stream::new(text)) {
-        Ok((value, _rest)) => value.show(alloc, &mut given)?,
-        Err(error) => {
-            let text = format!(in alloc; "{error}")?;
-            for line in text.lines() {
-                given.push_str(line)?;
-                given.push_str("; ")?;
-            }
+        Ok((value, _rest)) => {
+            let mut given = String::new(alloc);
+            value.show(alloc, &mut given)?;
+            Ok(given)
         }
+        Err(error) => format!(in alloc; "{error}"),
     }
-    Ok(given)
 }
 
 /// Returns what `parse_cuts` gives for an input with these cuts, as text.
@@ -203,7 +205,7 @@ where
         return Ok(text);
     }
     match parse_cuts(parser, whole, cuts) {
-        Ok((_asked, answer)) => show_answer(alloc, answer, &mut text)?,
+        Ok((_asked, answer)) => show_answer(alloc, &answer, &mut text)?,
         Err(_kind) => text.push_str("a fault")?,
     }
     Ok(text)

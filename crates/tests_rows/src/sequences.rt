@@ -18,22 +18,21 @@ use std::alloc::{AllocError, Global};
 #[derive(Drop)]
 struct Pair(u8, u8);
 
-fn tuples<Input: Stream<Token = u8>, D: Driver<Input>>(
-    alloc: Global,
-    rows: &mut D,
-) -> Result<(), AllocError>
+fn tuples<Input: Stream<Token = u8>, D: Driver<Input>>(alloc: Global, rows: &mut D)
 where
     Input::Error: ParseError<u8, Input::Range, Input::Position>,
 {
+    let a = token(b'a');
+    let b = token(b'b');
     rows.check(
-        many::<Vec<_>, _>(alloc, (token(b'a'), token(b'b'))),
+        many::<Vec<_>, _>(alloc, (a, b)),
         &[("ac", "refused committed")],
-    )?;
+    );
     rows.check(
-        many::<Vec<_>, _>(alloc, (token(b'a'), optional(token(b'b')))),
+        many::<Vec<_>, _>(alloc, (a, optional(b))),
         &[("ac", "[a,-] taken 1 committed")],
-    )?;
-    rows.check((value(b'1'), token(b'a')), &[("b", "refused peeked")])?;
+    );
+    rows.check((value(b'1'), a), &[("b", "refused peeked")]);
     let pair = struct_parser!(Pair(digit(), _: token(b','), digit()));
     rows.check(
         map(pair, |pair: Pair| (pair.0, pair.1)),
@@ -41,18 +40,18 @@ where
     )
 }
 
-fn followed<Input: Stream<Token = u8>, D: Driver<Input>>(rows: &mut D) -> Result<(), AllocError>
+fn followed<Input: Stream<Token = u8>, D: Driver<Input>>(rows: &mut D)
 where
     Input::Error: ParseError<u8, Input::Range, Input::Position>,
 {
     rows.check(
         then(any(), |byte: u8| token(byte)),
         &[("aa", "a taken 2 committed"), ("ab", "refused committed")],
-    )?;
+    );
     rows.check(
         then_ref(digit(), |byte: &u8| token(*byte)),
         &[("11", "1,1 taken 2 committed")],
-    )?;
+    );
     let by_first = |byte: u8| dispatch!(byte;
         b'a' => token(b'a'),
         b'b' => satisfy(|byte: u8| byte == b'b'),
@@ -65,7 +64,7 @@ where
     )
 }
 
-fn brackets<Input: Stream<Token = char>, D: Driver<Input>>(rows: &mut D) -> Result<(), AllocError>
+fn brackets<Input: Stream<Token = char>, D: Driver<Input>>(rows: &mut D)
 where
     Input::Error: ParseError<char, Input::Range, Input::Position>,
 {
@@ -79,11 +78,10 @@ where
 fn sequences(rt: HostRuntime) -> Result<(), AllocError> {
     let alloc = rt.alloc();
     let mut rows = Rows::new(alloc);
-    tuples::<MaybePartialStream<SliceStream<'static, u8>>, Rows>(alloc, &mut rows)?;
-    followed::<MaybePartialStream<SliceStream<'static, u8>>, Rows>(&mut rows)?;
-    brackets::<MaybePartialStream<TextStream<'static>>, Rows>(&mut rows)?;
-    rows.finish(&rt);
-    Ok(())
+    tuples::<MaybePartialStream<SliceStream<'static, u8>>, Rows>(alloc, &mut rows);
+    followed::<MaybePartialStream<SliceStream<'static, u8>>, Rows>(&mut rows);
+    brackets::<MaybePartialStream<TextStream<'static>>, Rows>(&mut rows);
+    rows.finish(&rt)
 }
 
 /// Returns the number of parts of eight of a parser.

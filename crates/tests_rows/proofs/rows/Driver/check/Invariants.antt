@@ -1,4 +1,4 @@
-use Rattle.tests_rows.proofs.rows.RowsDriverMaybePartialStreamSliceStreamU8.check.Given as goal
+use Rattle.tests_rows.proofs.rows.Driver.check.Given as goal
 
 -- the parser may be called again
 abbrev pub invariant-loop-row : goal.invariant-loop-row
