@@ -33,6 +33,6 @@ where
 
 /// A function, and one that is given a value too.
 fn of_functions() {
-    puts_back_without_memory::<fed::Stream<u8>, _>(parser(an_a));
-    puts_back_without_memory::<fed::Stream<u8>, _>(env_parser(b'a', this));
+    puts_back_without_memory::<fed::Stream<u8>, _>(&parser(an_a));
+    puts_back_without_memory::<fed::Stream<u8>, _>(&env_parser(b'a', this));
 }

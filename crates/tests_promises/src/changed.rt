@@ -15,12 +15,12 @@ fn changed<Input: Stream<Token = u8>>(alloc: Global)
 where
     Input::Error: ParseError<u8, Input::Range, Input::Position>,
 {
-    keeps_without_memory::<Input, _>(map(any(), |byte: u8| byte & 1));
-    keeps_without_memory::<Input, _>(ignore(any()));
-    keeps::<Input, _>(recognize::<Vec<u8>, _>(alloc, any()));
-    keeps_without_memory::<Input, _>(recognize::<Sink, _>(alloc, any()));
-    let mut parser = any();
-    keeps_without_memory::<Input, _>(ParserExt::<Input>::by_ref(&mut parser));
+    let mut any = any();
+    keeps_without_memory::<Input, _>(&map(any, |byte: u8| byte & 1));
+    keeps_without_memory::<Input, _>(&ignore(any));
+    keeps::<Input, _>(&recognize::<Vec<u8>, _>(alloc, any));
+    keeps_without_memory::<Input, _>(&recognize::<Sink, _>(alloc, any));
+    keeps_without_memory::<Input, _>(&ParserExt::<Input>::by_ref(&mut any));
 }
 
 /// What errors say.
@@ -28,11 +28,12 @@ fn told<Input: Stream<Token = u8>>()
 where
     Input::Error: ParseError<u8, Input::Range, Input::Position>,
 {
-    keeps_without_memory::<Input, _>(message(any(), "message"));
-    keeps_without_memory::<Input, _>(expected(any(), "token"));
-    keeps_without_memory::<Input, _>(silent(any()));
-    keeps_without_memory::<Input, _>(unexpected("token"));
-    keeps_without_memory::<Input, _>(unexpected_any::<_, _, u8>("token"));
+    let any = any();
+    keeps_without_memory::<Input, _>(&message(any, "message"));
+    keeps_without_memory::<Input, _>(&expected(any, "token"));
+    keeps_without_memory::<Input, _>(&silent(any));
+    keeps_without_memory::<Input, _>(&unexpected("token"));
+    keeps_without_memory::<Input, _>(&unexpected_any::<_, _, u8>("token"));
 }
 
 /// An error at a span.
@@ -40,5 +41,5 @@ fn placed<Input: Stream<Token = u8>>()
 where
     Input::Error: SpannedError<u8, Input::Range, Input::Position>,
 {
-    keeps_without_memory::<span::Stream<Input>, _>(spanned(any()));
+    keeps_without_memory::<span::Stream<Input>, _>(&spanned(any()));
 }

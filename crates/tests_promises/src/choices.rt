@@ -1,6 +1,6 @@
 //! Choices.
 
-use crate::promises::keeps_without_memory;
+use crate::promises::{keeps_and_asks, keeps_without_memory};
 use combine::error::ParseError;
 use combine::parser::choice::{Dispatch3, Slice, choice, optional, or};
 use combine::parser::combinator::Either;
@@ -8,17 +8,20 @@ use combine::parser::token::types::{Any, Token};
 use combine::parser::token::{any, token};
 use combine::stream::Stream;
 
-fn choices<Input: Stream<Token = u8>>()
+fn choices<Input: Stream<Token = u8>>(input: &mut Input)
 where
     Input::Error: ParseError<u8, Input::Range, Input::Position>,
 {
-    keeps_without_memory::<Input, _>(or(token(b'a'), any()));
-    keeps_without_memory::<Input, _>(optional(token(b'a')));
-    keeps_without_memory::<Input, _>(choice([token(b'a'), token(b'b')]));
-    let mut alternatives = [token(b'a'), token(b'b')];
-    keeps_without_memory::<Input, _>(choice(Slice(&mut alternatives)));
-    let mut lent = (token(b'a'), any());
-    keeps_without_memory::<Input, _>(choice(&mut lent));
+    let any = any();
+    let a = token(b'a');
+    keeps_and_asks(input, or(a, any));
+    keeps_and_asks(input, optional(a));
+    keeps_and_asks(input, choice((a, a, any)));
+    keeps_and_asks(input, choice([a, a]));
+    let mut alternatives = [a, a];
+    keeps_and_asks(input, choice(Slice(&mut alternatives)));
+    let mut lent = (a, any);
+    keeps_and_asks(input, choice(&mut lent));
 }
 
 /// Choices over tuples.
@@ -27,11 +30,10 @@ where
     Input::Error: ParseError<u8, Input::Range, Input::Position>,
 {
     let a = token(b'a');
-    keeps_without_memory::<Input, _>(choice((any(),)));
-    keeps_without_memory::<Input, _>(choice((a, any())));
-    keeps_without_memory::<Input, _>(choice((a, a, any())));
-    keeps_without_memory::<Input, _>(choice((a, a, a, any())));
-    keeps_without_memory::<Input, _>(choice((a, a, a, a, any())));
+    keeps_without_memory::<Input, _>(&choice((a,)));
+    keeps_without_memory::<Input, _>(&choice((a, a)));
+    keeps_without_memory::<Input, _>(&choice((a, a, a, a)));
+    keeps_without_memory::<Input, _>(&choice((a, a, a, a, a)));
 }
 
 /// Choices over longer tuples.
@@ -40,20 +42,21 @@ where
     Input::Error: ParseError<u8, Input::Range, Input::Position>,
 {
     let a = token(b'a');
-    keeps_without_memory::<Input, _>(choice((a, a, a, a, a, any())));
-    keeps_without_memory::<Input, _>(choice((a, a, a, a, a, a, any())));
-    keeps_without_memory::<Input, _>(choice((a, a, a, a, a, a, a, any())));
+    keeps_without_memory::<Input, _>(&choice((a, a, a, a, a, a)));
+    keeps_without_memory::<Input, _>(&choice((a, a, a, a, a, a, a)));
+    keeps_without_memory::<Input, _>(&choice((a, a, a, a, a, a, a, a)));
 }
 
 /// One of two or three.
-fn variants<Input: Stream<Token = u8>>()
+fn variants<Input: Stream<Token = u8>>(input: &mut Input)
 where
     Input::Error: ParseError<u8, Input::Range, Input::Position>,
 {
-    let right: Either<Any<Input>, Token<Input, u8>> = Either::Right(token(b'a'));
-    keeps_without_memory::<Input, _>(right);
+    let a = token(b'a');
+    let right: Either<Any<Input>, Token<Input, u8>> = Either::Right(a);
+    keeps_and_asks(input, right);
     let second: Dispatch3<Any<Input>, Token<Input, u8>, Any<Input>> = Either::Right(Either::Left(
-        token(b'a'),
+        a,
     ));
-    keeps_without_memory::<Input, _>(second);
+    keeps_and_asks(input, second);
 }

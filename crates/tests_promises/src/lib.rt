@@ -1,7 +1,6 @@
 //! What a caller can cite of each constructor: that it has one outcome, leaves nothing unread on need of more or puts all back, and takes no memory. Nothing here is run: each function is proved, and that is all it is for.
 #![tactic(auto)]
 
-pub mod asking;
 pub mod called;
 pub mod changed;
 pub mod choices;

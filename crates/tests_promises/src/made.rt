@@ -34,10 +34,10 @@ fn made<Input: Stream<Token = u8>>(alloc: Global)
 where
     Input::Error: ParseError<u8, Input::Range, Input::Position>,
 {
-    keeps_without_memory::<Input, _>(lazy(|| token(b'a')));
-    keeps_without_memory::<Input, _>(factory(an_a));
-    keeps::<Input, _>(iterate::<Vec<u8>, _, _>(alloc, b'a'..b'd', this));
-    keeps_without_memory::<Input, _>(iterate::<Sink, _, _>(alloc, b'a'..b'd', this));
+    keeps_without_memory::<Input, _>(&lazy(|| token(b'a')));
+    keeps_without_memory::<Input, _>(&factory(an_a));
+    keeps::<Input, _>(&iterate::<Vec<u8>, _, _>(alloc, b'a'..b'd', this));
+    keeps_without_memory::<Input, _>(&iterate::<Sink, _, _>(alloc, b'a'..b'd', this));
 }
 
 /// Any token, where another parser of the type would put it back.
@@ -57,9 +57,9 @@ where
     Input::Error: ParseError<u8, Input::Range, Input::Position>,
 {
     let any_next = |_: u8| -> OrPutBack<Input> { Either::Left(any()) };
-    keeps_without_memory::<Input, _>(then(any(), any_next));
-    keeps_without_memory::<Input, _>(lazy(|| -> OrPutBack<Input> { Either::Left(any()) }));
-    keeps_without_memory::<Input, _>(factory(the_first));
+    keeps_without_memory::<Input, _>(&then(any(), any_next));
+    keeps_without_memory::<Input, _>(&lazy(|| -> OrPutBack<Input> { Either::Left(any()) }));
+    keeps_without_memory::<Input, _>(&factory(the_first));
 }
 
 /// Any token, where another parser of the type would begin again.
@@ -78,6 +78,6 @@ fn answered_for_items<Input: Stream<Token = u8>>(alloc: Global)
 where
     Input::Error: ParseError<u8, Input::Range, Input::Position>,
 {
-    keeps::<Input, _>(iterate::<Vec<u8>, _, _>(alloc, 0..2, the_first_of));
-    keeps_without_memory::<Input, _>(iterate::<Sink, _, _>(alloc, 0..2, the_first_of));
+    keeps::<Input, _>(&iterate::<Vec<u8>, _, _>(alloc, 0..2, the_first_of));
+    keeps_without_memory::<Input, _>(&iterate::<Sink, _, _>(alloc, 0..2, the_first_of));
 }

@@ -44,7 +44,7 @@ fn braces<Input: Stream<Token = u8>>(alloc: Global)
 where
     Input::Error: ParseError<u8, Input::Range, Input::Position>,
 {
-    keeps::<Input, _>(nested(alloc, 2, || Brace, always(any())));
+    keeps::<Input, _>(&nested(alloc, 2, || Brace, always(any())));
 }
 
 /// A plus, between operands.
@@ -83,7 +83,7 @@ where
         optional(lexeme),
         |next: Option<Item<Plus, u8>>| next.unwrap_or(Item::Close),
     );
-    keeps_alone::<Input, _>(expression::<Plus, _, _, _, _>(
+    keeps_alone::<Input, _>(&expression::<Plus, _, _, _, _>(
         alloc,
         0,
         [Fixity::Left],

@@ -15,12 +15,13 @@ fn wrapped<Input: Stream<Token = u8>>()
 where
     Input::Error: ParseError<u8, Input::Range, Input::Position>,
 {
-    puts_back_without_memory::<Input, _>(attempt((any(), any())));
-    puts_back_without_memory::<Input, _>(look_ahead((any(), any())));
-    puts_back_without_memory::<Input, _>(not_followed_by((any(), token(b'a'))));
-    puts_back_without_memory::<Input, _>(no_partial((any(), any())));
-    puts_back_without_memory::<Input, _>(be_u16());
-    puts_back_without_memory::<Input, _>(crlf());
+    let any = any();
+    puts_back_without_memory::<Input, _>(&attempt((any, any)));
+    puts_back_without_memory::<Input, _>(&look_ahead((any, any)));
+    puts_back_without_memory::<Input, _>(&not_followed_by((any, any)));
+    puts_back_without_memory::<Input, _>(&no_partial((any, any)));
+    puts_back_without_memory::<Input, _>(&be_u16());
+    puts_back_without_memory::<Input, _>(&crlf());
 }
 
 /// What stands before a place.
@@ -28,10 +29,11 @@ fn up_to_a_place<Input: Stream<Token = u8>>(alloc: Global)
 where
     Input::Error: ParseError<u8, Input::Range, Input::Position>,
 {
-    puts_back_without_memory::<Input, _>(skip_until(token(b'a')));
-    puts_back_without_memory::<Input, _>(repeat_skip_until(any(), token(b'a')));
-    puts_back::<Input, _>(take_until::<Vec<u8>, _, _, _>(alloc, token(b'a')));
-    puts_back::<Input, _>(repeat_until::<Vec<u8>, _, _, _>(alloc, any(), token(b'a')));
+    let a = token(b'a');
+    puts_back_without_memory::<Input, _>(&skip_until(a));
+    puts_back_without_memory::<Input, _>(&repeat_skip_until(a, a));
+    puts_back::<Input, _>(&take_until::<Vec<u8>, _, _, _>(alloc, a));
+    puts_back::<Input, _>(&repeat_until::<Vec<u8>, _, _, _>(alloc, a, a));
 }
 
 /// A chain that is folded from the right.
@@ -40,5 +42,5 @@ where
     Input::Error: ParseError<u8, Input::Range, Input::Position>,
 {
     let operator = map(token(b'^'), |_: u8| |left: u8, right: u8| left ^ right);
-    puts_back::<Input, _>(chainr1(alloc, any(), operator));
+    puts_back::<Input, _>(&chainr1(alloc, any(), operator));
 }

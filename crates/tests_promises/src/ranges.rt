@@ -24,9 +24,9 @@ where
     Input::Range: Range,
     Input::Error: ParseError<u8, Input::Range, Input::Position>,
 {
-    puts_back_without_memory::<Input, _>(take(2));
-    puts_back_without_memory::<Input, _>(take_while(|byte: u8| byte.is_ascii_digit()));
-    puts_back_without_memory::<Input, _>(take_while1(|byte: u8| byte.is_ascii_digit()));
+    puts_back_without_memory::<Input, _>(&take(2));
+    puts_back_without_memory::<Input, _>(&take_while(|byte: u8| byte.is_ascii_digit()));
+    puts_back_without_memory::<Input, _>(&take_while1(|byte: u8| byte.is_ascii_digit()));
 }
 
 /// What a parser takes.
@@ -35,23 +35,24 @@ where
     Input::Range: Range,
     Input::Error: ParseError<u8, Input::Range, Input::Position>,
 {
-    puts_back_without_memory::<Input, _>(recognize((any(), any())));
-    puts_back_without_memory::<Input, _>(recognize_with_value((any(), any())));
+    let any = any();
+    puts_back_without_memory::<Input, _>(&recognize((any, any)));
+    puts_back_without_memory::<Input, _>(&recognize_with_value((any, any)));
 }
 
 /// A range of bytes, and what stands before one.
 fn of_slices() {
     let wanted = b"ab".as_slice();
     slices_are_fair::<u8>(wanted);
-    puts_back_without_memory::<&[u8], _>(range(wanted));
-    puts_back_without_memory::<&[u8], _>(take_until_range(wanted));
+    puts_back_without_memory::<&[u8], _>(&range(wanted));
+    puts_back_without_memory::<&[u8], _>(&take_until_range(wanted));
 }
 
 /// A range of characters, and what stands before one.
 fn of_texts() {
     texts_are_fair("ab");
-    puts_back_without_memory::<&str, _>(range("ab"));
-    puts_back_without_memory::<&str, _>(take_until_range("ab"));
+    puts_back_without_memory::<&str, _>(&range("ab"));
+    puts_back_without_memory::<&str, _>(&take_until_range("ab"));
 }
 
 /// What stands before bytes.
@@ -60,10 +61,10 @@ where
     Input::Range: ByteRange,
     Input::Error: ParseError<u8, Input::Range, Input::Position>,
 {
-    puts_back_without_memory::<Input, _>(take_until_byte(b'a'));
-    puts_back_without_memory::<Input, _>(take_until_byte2(b'a', b'b'));
-    puts_back_without_memory::<Input, _>(take_until_byte3(b'a', b'b', b'c'));
-    puts_back_without_memory::<Input, _>(take_until_bytes(b"ab"));
+    puts_back_without_memory::<Input, _>(&take_until_byte(b'a'));
+    puts_back_without_memory::<Input, _>(&take_until_byte2(b'a', b'b'));
+    puts_back_without_memory::<Input, _>(&take_until_byte3(b'a', b'b', b'c'));
+    puts_back_without_memory::<Input, _>(&take_until_bytes(b"ab"));
 }
 
 /// What stands before the place that a function finds.
@@ -76,7 +77,7 @@ where
         ensures { result ≡ Found 1 }
     { TakeRange::Found(1) };
     stable_has_one_outcome::<Input, _, _>(&second);
-    puts_back_without_memory::<Input, _>(take_fn(second));
+    puts_back_without_memory::<Input, _>(&take_fn(second));
 }
 
 /// A length, and then so many items.
@@ -87,5 +88,5 @@ where
 {
     let length = be_u16();
     length_prefix_has_one_outcome::<Input, _>(&length);
-    puts_back_without_memory::<Input, _>(length_prefix(length));
+    puts_back_without_memory::<Input, _>(&length_prefix(length));
 }

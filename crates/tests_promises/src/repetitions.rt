@@ -16,13 +16,14 @@ fn turns<Input: Stream<Token = u8>>(alloc: Global)
 where
     Input::Error: ParseError<u8, Input::Range, Input::Position>,
 {
-    keeps::<Input, _>(many::<Vec<u8>, _>(alloc, token(b'a')));
-    keeps_without_memory::<Input, _>(many::<Sink, _>(alloc, token(b'a')));
-    keeps::<Input, _>(many1::<Vec<u8>, _>(alloc, token(b'a')));
-    keeps_without_memory::<Input, _>(skip_many(token(b'a')));
-    keeps_without_memory::<Input, _>(skip_many1(token(b'a')));
+    let a = token(b'a');
+    keeps::<Input, _>(&many::<Vec<u8>, _>(alloc, a));
+    keeps_without_memory::<Input, _>(&many::<Sink, _>(alloc, a));
+    keeps::<Input, _>(&many1::<Vec<u8>, _>(alloc, a));
+    keeps_without_memory::<Input, _>(&skip_many(a));
+    keeps_without_memory::<Input, _>(&skip_many1(a));
     let plain = satisfy(|byte: u8| byte != b'\\');
-    keeps_without_memory::<Input, _>(escaped(plain, b'\\', any()));
+    keeps_without_memory::<Input, _>(&escaped(plain, b'\\', a));
 }
 
 /// So many turns.
@@ -30,10 +31,11 @@ fn counted<Input: Stream<Token = u8>>(alloc: Global)
 where
     Input::Error: ParseError<u8, Input::Range, Input::Position>,
 {
-    keeps::<Input, _>(count_min_max::<Vec<u8>, _>(alloc, 1, 2, any()));
-    keeps::<Input, _>(count::<Vec<u8>, _>(alloc, 2, any()));
-    keeps_without_memory::<Input, _>(skip_count_min_max(1, 2, any()));
-    keeps_without_memory::<Input, _>(skip_count(2, any()));
+    let any = any();
+    keeps::<Input, _>(&count_min_max::<Vec<u8>, _>(alloc, 1, 2, any));
+    keeps::<Input, _>(&count::<Vec<u8>, _>(alloc, 2, any));
+    keeps_without_memory::<Input, _>(&skip_count_min_max(1, 2, any));
+    keeps_without_memory::<Input, _>(&skip_count(2, any));
 }
 
 /// What stands between separators, and chains.
@@ -41,11 +43,12 @@ fn separated<Input: Stream<Token = u8>>(alloc: Global)
 where
     Input::Error: ParseError<u8, Input::Range, Input::Position>,
 {
-    keeps::<Input, _>(sep_count_min_max::<Vec<u8>, _, _>(alloc, 1, 2, token(b'a'), token(b',')));
-    keeps::<Input, _>(sep_by::<Vec<u8>, _, _>(alloc, token(b'a'), token(b',')));
-    keeps::<Input, _>(sep_by1::<Vec<u8>, _, _>(alloc, token(b'a'), token(b',')));
-    keeps::<Input, _>(sep_end_by::<Vec<u8>, _, _>(alloc, token(b'a'), token(b',')));
-    keeps::<Input, _>(sep_end_by1::<Vec<u8>, _, _>(alloc, token(b'a'), token(b',')));
-    let operator = map(token(b'^'), |_: u8| |left: u8, right: u8| left ^ right);
-    keeps_without_memory::<Input, _>(chainl1(any(), operator));
+    let a = token(b'a');
+    keeps::<Input, _>(&sep_count_min_max::<Vec<u8>, _, _>(alloc, 1, 2, a, a));
+    keeps::<Input, _>(&sep_by::<Vec<u8>, _, _>(alloc, a, a));
+    keeps::<Input, _>(&sep_by1::<Vec<u8>, _, _>(alloc, a, a));
+    keeps::<Input, _>(&sep_end_by::<Vec<u8>, _, _>(alloc, a, a));
+    keeps::<Input, _>(&sep_end_by1::<Vec<u8>, _, _>(alloc, a, a));
+    let operator = map(a, |_: u8| |left: u8, right: u8| left ^ right);
+    keeps_without_memory::<Input, _>(&chainl1(a, operator));
 }

@@ -1,6 +1,6 @@
 //! Parsers one after another.
 
-use crate::promises::keeps_without_memory;
+use crate::promises::{keeps_and_asks, keeps_without_memory};
 use combine::dispatch;
 use combine::error::ParseError;
 use combine::parser::sequence::{between, skip, then, then_partial, then_ref, with};
@@ -12,11 +12,12 @@ fn tuples<Input: Stream<Token = u8>>()
 where
     Input::Error: ParseError<u8, Input::Range, Input::Position>,
 {
-    keeps_without_memory::<Input, _>((any(),));
-    keeps_without_memory::<Input, _>((any(), token(b'a')));
-    keeps_without_memory::<Input, _>((any(), any(), token(b'a')));
-    keeps_without_memory::<Input, _>((any(), any(), any(), token(b'a')));
-    keeps_without_memory::<Input, _>((any(), any(), any(), any(), token(b'a')));
+    let a = token(b'a');
+    keeps_without_memory::<Input, _>(&(a,));
+    keeps_without_memory::<Input, _>(&(a, a));
+    keeps_without_memory::<Input, _>(&(a, a, a));
+    keeps_without_memory::<Input, _>(&(a, a, a, a));
+    keeps_without_memory::<Input, _>(&(a, a, a, a, a));
 }
 
 /// Longer tuples.
@@ -24,10 +25,10 @@ fn longer_tuples<Input: Stream<Token = u8>>()
 where
     Input::Error: ParseError<u8, Input::Range, Input::Position>,
 {
-    let last = token(b'a');
-    keeps_without_memory::<Input, _>((any(), any(), any(), any(), any(), last));
-    keeps_without_memory::<Input, _>((any(), any(), any(), any(), any(), any(), last));
-    keeps_without_memory::<Input, _>((any(), any(), any(), any(), any(), any(), any(), last));
+    let a = token(b'a');
+    keeps_without_memory::<Input, _>(&(a, a, a, a, a, a));
+    keeps_without_memory::<Input, _>(&(a, a, a, a, a, a, a));
+    keeps_without_memory::<Input, _>(&(a, a, a, a, a, a, a, a));
 }
 
 /// Tuples of whose values one is kept.
@@ -35,25 +36,35 @@ fn of_one_value<Input: Stream<Token = u8>>()
 where
     Input::Error: ParseError<u8, Input::Range, Input::Position>,
 {
-    keeps_without_memory::<Input, _>(with(any(), token(b'a')));
-    keeps_without_memory::<Input, _>(skip(any(), token(b'a')));
-    keeps_without_memory::<Input, _>(between(any(), any(), token(b'a')));
+    let a = token(b'a');
+    keeps_without_memory::<Input, _>(&with(a, a));
+    keeps_without_memory::<Input, _>(&skip(a, a));
+    keeps_without_memory::<Input, _>(&between(a, a, a));
 }
 
 /// A parser that a function answers.
-fn answered<Input: Stream<Token = u8>>()
+fn answered<Input: Stream<Token = u8>>(input: &mut Input)
 where
     Input::Error: ParseError<u8, Input::Range, Input::Position>,
 {
-    keeps_without_memory::<Input, _>(then(any(), |byte: u8| token(byte)));
-    keeps_without_memory::<Input, _>(then_partial(any(), |byte: &mut u8| token(*byte)));
-    keeps_without_memory::<Input, _>(then_ref(any(), |byte: &u8| token(*byte)));
-    keeps_without_memory::<Input, _>(then(
+    let any = any();
+    keeps_and_asks(input, then(any, |byte: u8| token(byte)));
+    keeps_without_memory::<Input, _>(&then_partial(any, |byte: &mut u8| token(*byte)));
+    keeps_without_memory::<Input, _>(&then_ref(any, |byte: &u8| token(*byte)));
+}
+
+/// A parser by kind.
+fn dispatched<Input: Stream<Token = u8>>(input: &mut Input)
+where
+    Input::Error: ParseError<u8, Input::Range, Input::Position>,
+{
+    let by_kind = then(
         any(),
         |kind: u8| dispatch!(kind;
         b'1' => any(),
         b'2' => token(kind),
         _ => value(kind),
     ),
-    ));
+    );
+    keeps_and_asks(input, by_kind);
 }

@@ -21,8 +21,8 @@ fn digit_of(byte: u8) -> Result<u8, UnexpectedParse>
 
 /// Changed or refused.
 fn judged() {
-    keeps_without_memory::<fed::Stream<u8>, _>(and_then(any(), digit_of));
-    keeps_without_memory::<fed::Stream<u8>, _>(flat_map(any(), digit_of));
+    keeps_without_memory::<fed::Stream<u8>, _>(&and_then(any(), digit_of));
+    keeps_without_memory::<fed::Stream<u8>, _>(&flat_map(any(), digit_of));
 }
 
 /// Twice the byte; the stream is left in place.
@@ -37,7 +37,7 @@ fn seen<Input: Stream<Token = u8>>()
 where
     Input::Error: ParseError<u8, Input::Range, Input::Position>,
 {
-    keeps_without_memory::<Input, _>(map_input(any(), doubled));
+    keeps_without_memory::<Input, _>(&map_input(any(), doubled));
 }
 
 /// Read from a text.
@@ -45,5 +45,5 @@ fn read<Input: Stream<Token = u8>>()
 where
     Input::Error: ParseError<u8, Input::Range, Input::Position>,
 {
-    keeps_without_memory::<Input, _>(from_str::<_, u8>(value("12")));
+    keeps_without_memory::<Input, _>(&from_str::<_, u8>(value("12")));
 }
