@@ -35,11 +35,11 @@ def folder_of(name):
 
 
 def sources(name):
-    """Returns the files of a crate, each as the path that it has in its folder and where it lies. Of a crate of tests, a file NAME.rt.of names the file of the repository that NAME.rt is."""
+    """Returns the files of a crate without its edits, each as the path that it has in its folder and where it lies. Of a crate of tests, a file NAME.rt.of names the file of the repository that NAME.rt is."""
     in_tests = name in crates_of_tests()
     folder = f"{ROOT}/{folder_of(name)}"
     for at, folders, files in os.walk(folder):
-        folders[:] = sorted(it for it in folders if it != "out")
+        folders[:] = sorted({*folders} - {"out", "must-fail"})
         for file in sorted(files):
             path, lies = os.path.relpath(f"{at}/{file}", folder), f"{at}/{file}"
             if in_tests and path.endswith(".of"):
