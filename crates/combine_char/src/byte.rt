@@ -19,7 +19,7 @@ use crate::class::in_class;
 use crate::fits::{By, Equal};
 use crate::named::naming;
 use crate::pair::whole_pair;
-use combine_repeat::repeat::skip_many;
+use combine_repeat::many::skip_many;
 use combine_token::token::token;
 use combine_token::token::types::Token;
 use types::{

@@ -1,5 +1,7 @@
+pub mod HeldAnswers
 pub mod EqualValues
 pub mod AlternativeLists
 pub mod MergedErrors
 pub mod RefusedAlternatives
 pub mod SliceCalls
+pub mod Choices

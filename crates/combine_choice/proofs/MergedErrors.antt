@@ -12,13 +12,13 @@ use Rattle.combine_base.specs.declared.stream.Kind.TheVariants as kinds
 use Rattle.combine_base.specs.declared.error.Tracked.{Tracked}
 use Rattle.combine_base.specs.declared.error.ParseResult.{ParseResult}
 use Rattle.combine_base.specs.declared.error.ParseResult.TheVariants.{CommitOk, PeekOk, CommitErr, PeekErr}
-use Rattle.combine_token.specs.Choice.Alternatives.{AfterRefusal, both_merged, refuses_both}
+use Rattle.combine_choice.specs.Choice.Alternatives.{AfterRefusal, both_merged, refuses_both}
 use Rattle.combine_choice.specs.ListChoice.{choice_of}
 use Rattle.combine_choice.specs.MergedErrors.{choice_is_empty, merges, one_commits, on_refuses, tried_refuses}
 use Rattle.combine_choice.specs.SliceCalls.{NoAlternative, BeginsAfresh, InFirst, AtPeek, PastLast}
 use Rattle.combine_choice.proofs.AlternativeLists.{drop_past}
-use Rattle.combine_choice.specs.declared.choice.slice.SliceState.{SliceState}
-use Rattle.combine_choice.specs.declared.choice.slice.SliceState.TheVariants.{Peek, At}
+use Rattle.combine_choice.specs.declared.lists.slice.SliceState.{SliceState}
+use Rattle.combine_choice.specs.declared.lists.slice.SliceState.TheVariants.{Peek, At}
 use Rattle.combine_choice.proofs.RefusedAlternatives.{IsSettled}
 
 module _ {X P T R E V S : Type 0} (s : Observers T R P E) (cmp : P → P → Ordering) (m : X → Meaning P T R E V S) (v : View P T) where

@@ -19,14 +19,14 @@ use Rattle.combine_base.specs.declared.stream.Failures.{Failures}
 use Rattle.combine_base.specs.declared.error.Tracked.{Tracked}
 use Rattle.combine_base.specs.declared.error.ParseResult.{ParseResult}
 use Rattle.combine_base.specs.declared.error.ParseResult.TheVariants.{CommitOk, PeekOk, CommitErr, PeekErr}
-use Rattle.combine_token.specs.Choice.Alternatives.{AfterRefusal, PeeksNoFault, both_merged, refuses_both}
-use Rattle.combine_token.specs.Choice.Choices.{OrElse, Later, either_into}
-use Rattle.combine_token.proofs.Choices.ChoiceOutcomes.{Tries, tries_start, tries_asks, tries_fails, tries_commit_ok, tries_peek_ok}
-use Rattle.combine_token.proofs.Choices.MergedRefusals.{no_fault}
+use Rattle.combine_choice.specs.Choice.Alternatives.{AfterRefusal, PeeksNoFault, both_merged, refuses_both}
+use Rattle.combine_choice.specs.Choice.Choices.{OrElse, Later, either_into}
+use Rattle.combine_choice.proofs.Choices.ChoiceOutcomes.{Tries, tries_start, tries_asks, tries_fails, tries_commit_ok, tries_peek_ok}
+use Rattle.combine_choice.proofs.Choices.MergedRefusals.{no_fault}
 use Rattle.combine_choice.specs.ListChoice.{first_alternative, running_or_later, every, every_drop, choice_of, running_lost}
 use Rattle.combine_choice.specs.SliceCalls.{CallsAlternative}
-use Rattle.combine_choice.specs.declared.choice.slice.SliceState.{SliceState}
-use Rattle.combine_choice.specs.declared.choice.slice.SliceState.TheVariants.{Peek, At}
+use Rattle.combine_choice.specs.declared.lists.slice.SliceState.{SliceState}
+use Rattle.combine_choice.specs.declared.lists.slice.SliceState.TheVariants.{Peek, At}
 
 -- the kinds of a peeked error, on a list with that mark
 abbrev pub IsPeeked : Bool → Kind → Type 0

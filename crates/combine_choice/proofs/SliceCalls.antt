@@ -10,14 +10,14 @@ use Rattle.combine_base.proofs.Parsers.Progress.{takes_none}
 use Rattle.combine_base.specs.declared.stream.Failures.{Failures}
 use Rattle.combine_base.specs.declared.error.ParseResult.{ParseResult}
 use Rattle.combine_base.specs.declared.error.ParseResult.TheVariants.{CommitOk, PeekOk, CommitErr, PeekErr}
-use Rattle.combine_token.specs.Choice.Choices.{refused, last_is, either_into}
-use Rattle.combine_token.proofs.Choices.ChoiceOutcomes.{Tries}
-use Rattle.combine_token.proofs.Choices.TwoAdditions.{says_together}
+use Rattle.combine_choice.specs.Choice.Choices.{refused, last_is, either_into}
+use Rattle.combine_choice.proofs.Choices.ChoiceOutcomes.{Tries}
+use Rattle.combine_token.proofs.Tokens.TwoAdditions.{says_together}
 use Rattle.combine_choice.specs.ListChoice.{first_alternative, running_or_later, every, choice_of, chosen_lost, chosen_rest, adds_all}
 use Rattle.combine_choice.specs.SliceCalls.{NoAlternative, BeginsAfresh, InFirst, AtPeek, PastLast}
 use Rattle.combine_choice.proofs.AlternativeLists.{drop_past}
-use Rattle.combine_choice.specs.declared.choice.slice.SliceState.{SliceState}
-use Rattle.combine_choice.specs.declared.choice.slice.SliceState.TheVariants.{Peek, At}
+use Rattle.combine_choice.specs.declared.lists.slice.SliceState.{SliceState}
+use Rattle.combine_choice.specs.declared.lists.slice.SliceState.TheVariants.{Peek, At}
 
 module _ {X P T R V S E : Type 0} (w : World P T (SliceState S) E) (errors : Observers T R P E) (cmp : P → P → Ordering) (m : X → Meaning P T R E V S) (xs : List X) where
   abbrev pub BeginsSlice : SliceState S → Bool → SliceState S → View P T → Failures → Type 0

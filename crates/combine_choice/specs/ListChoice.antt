@@ -9,13 +9,14 @@ use Rattle.combine_base.specs.Error.Errors.{Observers}
 use Rattle.combine_base.specs.Error.Items.{ErrorItem}
 use Rattle.combine_base.specs.Parser.Outcome.{Refused, Outcome, Accepted, Undecided}
 use Rattle.combine_base.specs.Parser.Meaning.{Meaning, Reading, Refusing, IsReading, IsSingle, IsMeaning, MeansOne, MeansSame, SameReasons, meant_same, refusals_same}
-use Rattle.combine_token.specs.Choice.Alternatives.{Together, both_merged, together_both, together_assoc}
-use Rattle.combine_token.specs.Choice.Choices.{ReadingsAgree, OrElse, refused, refused_is_reading, refused_is_single, either_is_reading, either_is_single, either_both, agree_self, Here, IsFirm, Later, either_assoc, either_last}
+use Rattle.combine_choice.specs.Choice.Alternatives.{both_merged}
+use Rattle.combine_token.specs.Token.Together.{Together, together_both, together_assoc}
+use Rattle.combine_choice.specs.Choice.Choices.{ReadingsAgree, OrElse, refused, refused_is_reading, refused_is_single, either_is_reading, either_is_single, either_both, agree_self, Here, IsFirm, Later, either_assoc, either_last}
 use Rattle.combine_choice.specs.MergedErrors.{Joins, RefusesChoice, RefusesChoiceFrom, chosen_refuses, alternative_refuses, merges, on_refuses, one_commits, tried_refuses}
-use Rattle.combine_choice.specs.declared.choice.slice.SliceState.{SliceState}
-use Rattle.combine_choice.specs.declared.choice.slice.SliceState.TheVariants.{Peek, At}
+use Rattle.combine_choice.specs.declared.lists.slice.SliceState.{SliceState}
+use Rattle.combine_choice.specs.declared.lists.slice.SliceState.TheVariants.{Peek, At}
 use Rattle.std.proofs.lemmas.List.{append-nil}
-use Rattle.combine_token.specs.Choice.Or.{StartsSame, either_of}
+use Rattle.combine_choice.specs.Choice.Or.{StartsSame, either_of}
 
 abbrev pub slice_valid : {S : Type 0} → (S → Type 0) → SliceState S → Type 0
 slice_valid f Peek = Unit {0}

@@ -8,10 +8,10 @@ use Rattle.combine_base.specs.Parser.Meaning.{Meaning, MeantRefusal, Reading, Re
 use Rattle.combine_base.specs.Parser.Outcome.{Refused}
 use Rattle.combine_base.specs.Refusals.{HasItems}
 use Rattle.combine_base.specs.declared.stream.Kind.TheVariants as kinds
-use Rattle.combine_token.specs.Choice.Alternatives.{both_merged}
+use Rattle.combine_choice.specs.Choice.Alternatives.{both_merged}
 use Rattle.combine_token.specs.Token.TokenReasons.{peeked_only}
-use Rattle.combine_choice.specs.declared.choice.slice.SliceState.{SliceState}
-use Rattle.combine_choice.specs.declared.choice.slice.SliceState.TheVariants.{Peek, At}
+use Rattle.combine_choice.specs.declared.lists.slice.SliceState.{SliceState}
+use Rattle.combine_choice.specs.declared.lists.slice.SliceState.TheVariants.{Peek, At}
 
 abbrev pub choice_is_empty : {T R : Type 0} → ErrorItem T R
 choice_is_empty = Message (Fixed (codes "parser choice is empty"))

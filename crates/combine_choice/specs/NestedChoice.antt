@@ -1,9 +1,9 @@
 -- the alternatives of a tuple as choices of two, and the laws of such choices
 use Rattle.std.specs.Prelude.{◌≡◌}
 use Rattle.combine_base.specs.Parser.Meaning.{Meaning, IsMeaning, MeansOne}
-use Rattle.combine_token.specs.Choice.Or.{either_of, or_is_meaning, or_means_one, or_parser, or_valid}
-use Rattle.combine_token.specs.declared.choice.OrState.TheVariants.{Peek}
-use Rattle.combine_token.specs.declared.choice.types.Or.{Or}
+use Rattle.combine_choice.specs.Choice.Or.{either_of, or_is_meaning, or_means_one, or_parser, or_valid}
+use Rattle.combine_choice.specs.declared.or.OrState.TheVariants.{Peek}
+use Rattle.combine_choice.specs.declared.or.types.Or.{Or}
 
 abbrev pub or_2 : {A B : Type 0} → A × B → Or A B
 or_2 p = or_parser p.0 p.1

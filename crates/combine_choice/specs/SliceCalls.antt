@@ -10,8 +10,8 @@ use Rattle.combine_base.specs.declared.stream.Kind.TheVariants as kinds
 use Rattle.combine_base.specs.declared.error.ParseResult.{ParseResult}
 use Rattle.combine_base.specs.declared.error.ParseResult.TheVariants.{CommitOk, PeekOk, CommitErr, PeekErr}
 use Rattle.combine_choice.specs.MergedErrors.{choice_is_empty, tried_refuses}
-use Rattle.combine_choice.specs.declared.choice.slice.SliceState.{SliceState}
-use Rattle.combine_choice.specs.declared.choice.slice.SliceState.TheVariants.{Peek, At}
+use Rattle.combine_choice.specs.declared.lists.slice.SliceState.{SliceState}
+use Rattle.combine_choice.specs.declared.lists.slice.SliceState.TheVariants.{Peek, At}
 use Rattle.combine_base.specs.Parser.DriverAnswers.{NeedsMore}
 use Rattle.std.specs.List.{All}
 use Rattle.std.specs.declared.cmp.Ordering.{Ordering}

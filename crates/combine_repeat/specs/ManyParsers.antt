@@ -1,10 +1,10 @@
 -- the parsers that the constructors build
 use Rattle.std.specs.declared.alloc.Global.{Global}
-use Rattle.combine_repeat_turns.specs.Repeat.RepeatParsers.{each_of, repeat_of}
-use Rattle.combine_repeat_turns.specs.declared.each.Dropped.{Dropped}
-use Rattle.combine_repeat_turns.specs.declared.each.Each.{Each}
-use Rattle.combine_repeat_turns.specs.declared.repeat.Repeat.{Repeat}
-use Rattle.combine_repeat_turns.specs.declared.bounds.FirstThenMore.{FirstThenMore}
+use Rattle.combine_repeat.specs.Repeat.RepeatParsers.{each_of, repeat_of}
+use Rattle.combine_repeat.specs.declared.each.Dropped.{Dropped}
+use Rattle.combine_repeat.specs.declared.each.Each.{Each}
+use Rattle.combine_repeat.specs.declared.counts.Repeat.{Repeat}
+use Rattle.combine_repeat.specs.declared.bounds.FirstThenMore.{FirstThenMore}
 
 abbrev pub many_of : {F P : Type 0} → Global → P → Repeat (Each F) P (Unit {0})
 many_of alloc parser = repeat_of (each_of alloc) parser tt

@@ -7,7 +7,7 @@ use crate::fits::{By, Equal};
 use crate::named::Named;
 use crate::pair::WholePair;
 use crate::texts;
-use combine_repeat::repeat::types::SkipMany;
+use combine_repeat::many::types::SkipMany;
 
 /// The parser of [`digit`](crate::byte::digit).
 pub type Digit<Input> = ClassParser<Input, classes::Digit>;

@@ -1,6 +1,6 @@
 use Rattle.combine_base.proofs.Parsers.SameMeanings.{same_none}
 use Rattle.combine_token.specs.Token.Among.{expects_each}
-use Rattle.combine_token.proofs.Choices.TwoAdditions.{says_as, says_unstored}
+use Rattle.combine_token.proofs.Tokens.TwoAdditions.{says_as, says_unstored}
 use Rattle.combine_token.proofs.token.among.types.OneOfParser.add_error.Goals as goal
 
 pub returns-in-Ok-clause-same : goal.returns-in-Ok-clause-same

@@ -1,0 +1,43 @@
+use Rattle.combine_repeat.specs.declared.turns.Earlier.TheVariants.{Nothing}
+use Rattle.combine_repeat.specs.declared.bounds.Bounds.TheVariants.{OwnFirst}
+use Rattle.std.proofs.Common.{◌≡◌, ◌+◌, length, true, None}
+use Rattle.combine_base.specs.Parser.Answer.{world}
+use Rattle.combine_base.specs.Stream.Calls.{Passes}
+use Rattle.combine_repeat.specs.Turns.Turn.{TurnsSame, called}
+use Rattle.combine_repeat.specs.Turns.Bounds.{bounded, gathered, fresh_turns, none_yet, so_far, turns_from, bounded_is_rule}
+use Rattle.combine_repeat.proofs.TurnCalls.{ReachesTurn}
+use Rattle.combine_repeat.proofs.RepeatCalls.{idle_turns}
+use Rattle.combine_repeat.proofs.TurnRefusals.{LeadsRefusals}
+use Rattle.combine_repeat.proofs.turns.reduce_turns.Given as goal
+
+abbrev pub invariant-turns : goal.invariant-turns
+invariant-turns g l = record {
+  lawful : g.P.TurnParser.lawful l.parser;
+  valid : g.P.TurnParser.valid l.state.running;
+  fresh : g.P.Running.Default.is_default l.state.running;
+  same : TurnsSame (g.P.TurnParser.meaning l.fn.parser) (g.P.TurnParser.again l.fn.parser) (g.P.TurnParser.meaning l.parser) (g.P.TurnParser.again l.parser);
+  passes : Passes (g.Input.StreamOnce.marks l.fn.input) (g.Input.StreamOnce.marks l.input) (g.Input.StreamOnce.failures l.fn.input) (g.Input.StreamOnce.failures l.input);
+  cleared : l.state.earlier ≡ Nothing;
+  sound : g.G.Gather.sound (g.G.Gather.held l.turns.into);
+  reaches : ReachesTurn
+      (world g.Input.StreamOnce.step g.Input.Error.ParseError.observers g.Input.StreamOnce.counts_failures g.P.Running.Default.is_default)
+      (fresh_turns g.P.Running.Default.is_default)
+      (bounded (OwnFirst 1 None) g.P.TurnParser.ending) (bounded_is_rule (OwnFirst 1 None) g.P.TurnParser.ending)
+      (gathered g.G.Gather.held g.G.Gather.none g.G.Gather.more g.G.Gather.heapless)
+      (λ _. (g.P.TurnParser.again l.fn.parser).reads)
+      (called (g.P.TurnParser.meaning l.fn.parser) (g.P.TurnParser.again l.fn.parser) true)
+      (turns_from g.Input.StreamOnce.step g.Input.Error.ParseError.observers (OwnFirst 1 None) g.P.TurnParser.ending (gathered g.G.Gather.held g.G.Gather.none g.G.Gather.more g.G.Gather.heapless) (none_yet g.G.Gather.none) (g.P.TurnParser.meaning l.fn.parser) (g.P.TurnParser.again l.fn.parser))
+      (g.M.ParseMode.first l.fn.mode) l.fn.state (g.Input.StreamOnce.view l.fn.input) (g.Input.StreamOnce.failures l.fn.input)
+      true l.state.running (g.Input.StreamOnce.view l.input) (g.Input.StreamOnce.failures l.input)
+      (so_far g.G.Gather.held l.turns);
+  leads : LeadsRefusals
+      g.Input.StreamOnce.step g.Input.Error.ParseError.observers (OwnFirst 1 None) g.P.TurnParser.ending
+      (gathered g.G.Gather.held g.G.Gather.none g.G.Gather.more g.G.Gather.heapless) (none_yet g.G.Gather.none)
+      (g.P.TurnParser.meaning l.fn.parser) (g.P.TurnParser.again l.fn.parser)
+      (g.M.ParseMode.first l.fn.mode) l.fn.state (g.Input.StreamOnce.view l.fn.input)
+      (g.P.TurnParser.again l.fn.parser)
+      l.turns.index l.turns.committed (g.Input.StreamOnce.view l.input);
+}
+
+abbrev pub decreases-turns : goal.decreases-turns
+decreases-turns g l = length (g.Input.StreamOnce.view l.input).unread + idle_turns (OwnFirst 1 None) l.turns.index

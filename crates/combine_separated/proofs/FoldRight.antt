@@ -1,0 +1,20 @@
+-- operands folded from the right, the last operator first
+use Rattle.std.proofs.Common.{◌≡◌, List, [], ◌∷◌, ◌++◌, length, refl, arith}
+use Rattle.combine_separated.specs.Chains.{all_good, folded_right}
+use Rattle.combine_separated.specs.declared.operands.PendingOperand.{PendingOperand}
+
+module _ {O V : Type 0} (post : O → V → V → V → Type 0) where
+  -- one operator less
+  pub fold_last : (xs : List (PendingOperand O V)) (x : PendingOperand O V) (last b r : V) → post x.operator x.operand last b → folded_right post xs b r → folded_right post (xs ++ x ∷ []) last r
+  fold_last [] x last b r p h = (last, refl, rw h p)
+  fold_last (y ∷ xs) x last b r p h = (h.0, fold_last xs x last b h.0 p h.1, h.2)
+
+  -- no operator is left
+  pub fold_none : (xs : List (PendingOperand O V)) (last : V) → length xs ≡ 0 → folded_right post xs last last
+  fold_none [] last e = refl
+  fold_none (x ∷ xs) last e = absurd (omega arith)
+
+-- the last operator is good, and those before it
+pub last_good : {O V : Type 0} (good : O → Type 0) (xs : List (PendingOperand O V)) (x : PendingOperand O V) → all_good good (xs ++ x ∷ []) → all_good good xs × good x.operator
+last_good good [] x d = (tt, d.0)
+last_good good (y ∷ xs) x d = let h = last_good good xs x d.1 in ((d.0, h.0), h.1)
