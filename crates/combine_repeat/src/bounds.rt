@@ -135,10 +135,9 @@ pub fn is_enough<B: TurnBounds>(bounds: B, index: TurnIndex) -> bool
     !(0 < missing)
 }
 
-/// Any number; each takes a token.
-///
-/// It is `()`, which costs the text of a nested parser's type least.
-pub type ZeroOrMore = ();
+/// Any number of turns, each of which takes a token.
+#[derive(Clone, Copy)]
+pub struct ZeroOrMore;
 
 impl TurnBounds for ZeroOrMore {
     ghost use Rattle.combine_repeat.specs.declared.bounds.Bounds.TheVariants.{Unbounded};

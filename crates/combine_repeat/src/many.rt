@@ -17,7 +17,7 @@ ghost use Rattle.combine_repeat.specs.ManyParsers.{many_of, many1_of, skip_many_
 pub mod laws;
 pub mod types;
 
-use crate::bounds::FirstThenMore;
+use crate::bounds::{FirstThenMore, ZeroOrMore};
 use crate::counts::Repeat;
 use crate::each::{Dropped, Each};
 pub use crate::turns::TurnsState;
@@ -58,7 +58,7 @@ use types::{Many, Many1, SkipMany, SkipMany1};
 pub fn many<F, P>(alloc: Global, parser: P) -> Many<F, P>
     ensures { result ≡ many_of alloc parser }
 {
-    Repeat::new(Each::new(alloc), parser, ())
+    Repeat::new(Each::new(alloc), parser, ZeroOrMore)
 }
 
 /// Runs `parser` once, and then turns of it until it is refused peeked, and collects all values in order.
@@ -110,7 +110,7 @@ pub fn many1<F, P>(alloc: Global, parser: P) -> Many1<F, P>
 pub fn skip_many<P>(parser: P) -> SkipMany<P>
     ensures { result ≡ skip_many_of parser }
 {
-    Repeat::new(Dropped, parser, ())
+    Repeat::new(Dropped, parser, ZeroOrMore)
 }
 
 /// Runs turns as `many1` does, and drops the values.

@@ -6,6 +6,7 @@ use Rattle.combine_combinator.specs.declared.combinator.values.Nothing.{Nothing}
 use Rattle.combine_combinator.specs.declared.combinator.values.Picked.{Picked}
 use Rattle.combine_repeat.specs.ManyParsers.{skip_many_of}
 use Rattle.combine_repeat.specs.declared.each.Dropped.{Dropped}
+use Rattle.combine_repeat.specs.declared.bounds.ZeroOrMore.{ZeroOrMore}
 use Rattle.combine_repeat.specs.declared.counts.Repeat.{Repeat}
 use Rattle.combine_choice.specs.Choice.Or.{or_parser}
 use Rattle.combine_token.specs.Token.TokenParsers.{token_parser}
@@ -36,5 +37,5 @@ abbrev pub right_operator : {P S : Type 0} → RightFold P S → S
 right_operator p = p.turn.separator
 
 -- turns of a parser, or of a token and another parser
-abbrev pub escaped_of : {I P T Q : Type 0} → P → T → Q → Repeat Dropped (Or (Picked P Nothing (Unit {0})) (Picked (Token I T × Q) Nothing (Unit {0}))) (Unit {0})
+abbrev pub escaped_of : {I P T Q : Type 0} → P → T → Q → Repeat Dropped (Or (Picked P Nothing (Unit {0})) (Picked (Token I T × Q) Nothing (Unit {0}))) ZeroOrMore
 escaped_of parser escape escaped = skip_many_of (or_parser (picked_of parser) (picked_of (token_parser escape, escaped)))

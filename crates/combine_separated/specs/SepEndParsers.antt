@@ -16,8 +16,8 @@ ended_by_part p = ended_part p.turn
 abbrev pub ended_by_separator : {F P S B : Type 0} → SepEndRepeat F P S B → S
 ended_by_separator p = closer_of p.turn
 
-abbrev pub sep_end_by_of : {F P S : Type 0} → Global → P → S → SepEndRepeat F P S (Unit {0})
-sep_end_by_of alloc parser separator = sep_end_repeat_of alloc tt parser separator
+abbrev pub sep_end_by_of : {F P S : Type 0} → Global → P → S → SepEndRepeat F P S (FirstThenMore 0)
+sep_end_by_of alloc parser separator = sep_end_repeat_of alloc (record {}) parser separator
 
 abbrev pub sep_end_by1_of : {F P S : Type 0} → Global → P → S → SepEndRepeat F P S (FirstThenMore 1)
 sep_end_by1_of alloc parser separator = sep_end_repeat_of alloc (record {}) parser separator

@@ -26,8 +26,8 @@ sep_min p = p.bounds.min
 abbrev pub sep_max : {F P S : Type 0} → SepRepeat F P S FirstThenUpTo → ℕ
 sep_max p = p.bounds.max
 
-abbrev pub sep_by_of : {F P S : Type 0} → Global → P → S → SepRepeat F P S (Unit {0})
-sep_by_of alloc parser separator = sep_repeat_of alloc tt parser separator
+abbrev pub sep_by_of : {F P S : Type 0} → Global → P → S → SepRepeat F P S (FirstThenMore 0)
+sep_by_of alloc parser separator = sep_repeat_of alloc (record {}) parser separator
 
 abbrev pub sep_by1_of : {F P S : Type 0} → Global → P → S → SepRepeat F P S (FirstThenMore 1)
 sep_by1_of alloc parser separator = sep_repeat_of alloc (record {}) parser separator

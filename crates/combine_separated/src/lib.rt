@@ -1,7 +1,6 @@
 //! Repetitions with a separator or an operator between the turns, chains, and texts with escapes.
 #![tactic(auto)]
 
-pub mod bounds;
 pub mod chains;
 pub mod elements;
 pub mod ended;

@@ -20,7 +20,6 @@ ghost use Rattle.combine_separated.specs.Separated.{any_lead, separated_default,
 pub mod laws;
 pub mod types;
 
-use crate::bounds::ElementBounds;
 use crate::elements::EachElement;
 use crate::separated::{Anything, Separated, SeparatedState};
 use combine_base::error::{ErrorOffset, ParseResult, Tracked};
@@ -73,7 +72,7 @@ impl<
     P: Parser<Input>,
     S: Parser<Input>,
     F: Append<P::Output>,
-    B: ElementBounds,
+    B: TurnBounds,
 > Parser<Input> for SepRepeat<F, P, S, B> {
     type PartialState = TurnsState<F, SeparatedState<S::Output, S::PartialState, P::PartialState>>;
 
@@ -101,9 +100,9 @@ impl<
         state: &mut Self::PartialState,
     ) -> ParseResult<F, Input::Error> {
         let start = TurnProgress::none_yet(F::empty(self.alloc));
-        take_turns::<EachElement<F>, Input, Separated<P, S, Anything>, M, B::Turns>(
+        take_turns::<EachElement<F>, Input, Separated<P, S, Anything>, M, B>(
             &mut self.turn,
-            self.bounds.turns(),
+            self.bounds,
             start,
             mode,
             input,
@@ -120,7 +119,7 @@ impl<
     /// Counts as the parser of the elements does; where their number is bounded it counts as one parser.
     #[inline]
     fn parser_count(&self) -> ErrorOffset {
-        if self.bounds.turns().is_unbounded() {
+        if self.bounds.is_unbounded() {
             return self.turn.parser.parser_count();
         }
         ErrorOffset(1)
@@ -191,7 +190,7 @@ pub fn sep_count_min_max<F, P, S>(
 pub fn sep_by<F, P, S>(alloc: Global, parser: P, separator: S) -> SepBy<F, P, S>
     ensures { result ≡ sep_by_of alloc parser separator }
 {
-    SepRepeat::new(alloc, (), parser, separator)
+    SepRepeat::new(alloc, FirstThenMore::<0>, parser, separator)
 }
 
 /// Takes at least one element, and any number, with what `separator` takes between two of them, and collects their values.

@@ -18,7 +18,6 @@ ghost use Rattle.combine_repeat.specs.Repeat.Repeated.{appended};
 pub mod laws;
 pub mod types;
 
-use crate::bounds::ElementBounds;
 use crate::ended::{EachSome, Ended};
 use crate::separated::SeparatedState;
 use combine_base::error::{ErrorOffset, ParseResult, Tracked};
@@ -26,7 +25,7 @@ use combine_base::parser::{Outputs, ParseMode, Parser};
 use combine_base::repeat::Append;
 use combine_base::stream::Stream;
 use combine_choice::or::optional;
-use combine_repeat::bounds::FirstThenMore;
+use combine_repeat::bounds::{FirstThenMore, TurnBounds};
 use combine_repeat::turns::{TurnProgress, TurnsState, take_turns};
 use std::alloc::Global;
 use std::marker::PhantomData;
@@ -69,7 +68,7 @@ impl<
     P: Parser<Input>,
     S: Parser<Input>,
     F: Append<P::Output>,
-    B: ElementBounds,
+    B: TurnBounds,
 > Parser<Input> for SepEndRepeat<F, P, S, B> {
     type PartialState = TurnsState<F, SeparatedState<S::Output, S::PartialState, P::PartialState>>;
 
@@ -97,9 +96,9 @@ impl<
         state: &mut Self::PartialState,
     ) -> ParseResult<F, Input::Error> {
         let start = TurnProgress::none_yet(F::empty(self.alloc));
-        take_turns::<EachSome<F>, Input, Ended<P, S>, M, B::Turns>(
+        take_turns::<EachSome<F>, Input, Ended<P, S>, M, B>(
             &mut self.turn,
-            self.bounds.turns(),
+            self.bounds,
             start,
             mode,
             input,
@@ -138,7 +137,7 @@ impl<
 pub fn sep_end_by<F, P, S>(alloc: Global, parser: P, separator: S) -> SepEndBy<F, P, S>
     ensures { result ≡ sep_end_by_of alloc parser separator }
 {
-    SepEndRepeat::new(alloc, (), parser, separator)
+    SepEndRepeat::new(alloc, FirstThenMore::<0>, parser, separator)
 }
 
 /// Takes at least one element, which are `parser`'s, with what `separator` takes between two of them and perhaps after the last.

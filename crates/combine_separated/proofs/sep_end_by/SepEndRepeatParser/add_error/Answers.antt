@@ -4,4 +4,4 @@ use Rattle.combine_separated.specs.SepEndParsers.{sep_end_bounds, ended_by_separ
 use Rattle.combine_separated.proofs.sep_end_by.SepEndRepeatParser.add_error.Goals as goal
 
 pub returns-clause-same : goal.returns-clause-same
-returns-clause-same g c = sep_end_means_same _ _ (g.B.ElementBounds.bounds (sep_end_bounds c.args.self.now)) _ _ _ _ _ c.add_error.ensures.same (same_none (g.S.Parser.meaning (ended_by_separator c.args.self.now)))
+returns-clause-same g c = sep_end_means_same _ _ (g.B.TurnBounds.bounds (sep_end_bounds c.args.self.now)) _ _ _ _ _ c.add_error.ensures.same (same_none (g.S.Parser.meaning (ended_by_separator c.args.self.now)))

@@ -4,7 +4,7 @@ use Rattle.combine_repeat.specs.Turns.Bounds.{turns_means_same}
 use Rattle.combine_separated.proofs.sep_end_by.SepEndRepeatParser.parse_mode.Goals as goal
 
 pub returns-clause-same : goal.returns-clause-same
-returns-clause-same g c = turns_means_same _ _ (g.B.ElementBounds.bounds (sep_end_bounds c.args.self.now)) is_none _ _ _ _ _ _ c.take_turns.ensures.same
+returns-clause-same g c = turns_means_same _ _ (g.B.TurnBounds.bounds (sep_end_bounds c.args.self.now)) is_none _ _ _ _ _ _ c.take_turns.ensures.same
 
 pub returns-clause-answers : goal.returns-clause-answers
 returns-clause-answers g c = rw (c.none_yet-start.ensures, c.empty.ensures, c.turns.ensures) at c.take_turns.ensures.answers
