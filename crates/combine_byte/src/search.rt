@@ -91,11 +91,7 @@ where
 
     ghost determined = { λ p. S.settled p.searcher };
 
-    ghost valid = { λ s. Unit {0} };
-
     ghost meaning = { λ p. kept Input.size (searching Input.size Input.spells (S.search p.searcher)) AddsNothing (RefusesSearch Input.Error.observers Input.step Input.size Input.spells (S.search p.searcher)) };
-
-    ghost parts = { λ p. 1 };
 
     #[inline(always)]
     fn parse_mode<M: ParseMode>(

@@ -183,15 +183,7 @@ impl<Input, O, N: Drop> Outputs<Input> for WholeNumber<Input, O, N> {
 impl<Input: Stream, O: Order<Input::Token>, N: Number> Parser<Input> for WholeNumber<Input, O, N> {
     type PartialState = ();
 
-    ghost lawful = { λ p. Unit {0} };
-
-    ghost determined = { λ p. Unit {0} };
-
-    ghost valid = { λ s. Unit {0} };
-
     ghost meaning = { λ p. takes_number Input.Error.observers N.width (worth N.of_sum O.number) };
-
-    ghost parts = { λ p. 1 };
 
     #[inline(always)]
     fn parse_mode<M: ParseMode>(

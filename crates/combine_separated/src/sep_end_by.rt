@@ -80,8 +80,6 @@ impl<
 
     ghost meaning = { λ p. sep_end Input.step Input.Error.observers (B.bounds (sep_end_bounds p)) (appended F.held F.none F.more F.heapless) (P.meaning (ended_by_part p)) (S.meaning (ended_by_separator p)) };
 
-    ghost parts = { λ _. 1 };
-
     ghost default_valid = { fresh_turns_valid (separated_fresh P.PartialState.is_default) (separated_valid P.valid (pair_valid S.valid P.valid)) (separated_default P.PartialState.is_default P.valid (pair_valid S.valid P.valid) P.default_valid) };
 
     ghost laws = { λ p l. sep_end_is_meaning Input.step Input.Error.observers (B.bounds (sep_end_bounds p)) (appended F.held F.none F.more F.heapless) _ _ _ _ _ _ (P.laws (ended_by_part p) l.1) (S.laws (ended_by_separator p) l.0) };

@@ -38,8 +38,6 @@ impl<Input: Stream, P: Parser<Input>> Parser<Input> for Mute<P> {
 
     ghost meaning = { λ p. mute (P.meaning (muted_part p)) };
 
-    ghost parts = { λ _. 1 };
-
     ghost default_valid = { P.default_valid };
 
     ghost laws = { λ p l. mute_is_meaning P.PartialState.is_default P.valid (P.meaning (muted_part p)) (P.laws (muted_part p) l) };

@@ -129,8 +129,6 @@ impl<Input: Stream, A: Drop, P: Parser<Input, Output = A>, E: Parser<Input>> Par
 
     ghost meaning = { λ p. next (E.meaning (next_end p)) (P.meaning (next_part p)) };
 
-    ghost parts = { λ _. 1 };
-
     ghost default_valid = { λ s d. rw d tt };
 
     ghost laws = { λ p l. next_is_meaning (E.meaning (next_end p)) (P.meaning (next_part p)) (E.laws (next_end p) l.0) (P.laws (next_part p) l.1) };

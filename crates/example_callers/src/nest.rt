@@ -116,15 +116,7 @@ where
 {
     type PartialState = ();
 
-    ghost lawful = { λ p. Unit {0} };
-
-    ghost determined = { λ p. Unit {0} };
-
-    ghost valid = { λ s. Unit {0} };
-
     ghost meaning = { λ p. nests Input.step p.0 };
-
-    ghost parts = { λ p. 1 };
 
     fn parse_mode<M: ParseMode>(
         &mut self,

@@ -27,15 +27,7 @@ impl<Input: StreamOnce, C> Outputs<Input> for ClassParser<Input, C> {
 impl<Input: Stream, C: Class<Input::Token>> Parser<Input> for ClassParser<Input, C> {
     type PartialState = ();
 
-    ghost lawful = { λ p. Unit {0} };
-
-    ghost determined = { λ p. Unit {0} };
-
-    ghost valid = { λ s. Unit {0} };
-
     ghost meaning = { λ p. takes_member Input.Error.observers C.members C.bytes };
-
-    ghost parts = { λ p. 1 };
 
     #[inline(always)]
     fn parse_mode<M: ParseMode>(

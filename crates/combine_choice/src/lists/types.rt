@@ -25,8 +25,6 @@ impl<Input: Stream, P: ChoiceParser<Input>> Parser<Input> for Choice<P> {
 
     ghost meaning = { λ p. P.meaning p.0 };
 
-    ghost parts = { λ _. 1 };
-
     ghost default_valid = { P.default_valid };
 
     ghost laws = { λ p l. P.laws p.0 l };

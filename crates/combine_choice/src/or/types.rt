@@ -30,8 +30,6 @@ impl<Input: Stream, P: Parser<Input>, Q: Parser<Input, Output = P::Output>> Pars
 
     ghost meaning = { λ p. either_of (both_merged Input.Error.observers Input.Position.cmp) (P.meaning p.0) (Q.meaning p.1) };
 
-    ghost parts = { λ _. 1 };
-
     ghost default_valid = { λ s d. rw d tt };
 
     ghost laws = { λ p l. or_is_meaning (both_merged Input.Error.observers Input.Position.cmp) P.PartialState.is_default P.valid Q.PartialState.is_default Q.valid _ _ (P.laws p.0 l.0) (Q.laws p.1 l.1) };

@@ -92,8 +92,6 @@ impl<Input: Stream, L: Parser<Input>, R: Parser<Input, Output = L::Output>> Pars
 
     ghost meaning = { variant_2 L.meaning R.meaning };
 
-    ghost parts = { λ p. 1 };
-
     ghost default_valid = { each_2_into L.default_valid R.default_valid };
 
     ghost laws = { variant_2_is_meaning L.laws R.laws };

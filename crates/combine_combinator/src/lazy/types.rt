@@ -35,8 +35,6 @@ impl<Input: Stream, N: Parser<Input> + Drop, F: Maker<Output = N>> Parser<Input>
 
     ghost meaning = { λ p. made_meaning (at_any (F.returns (lazy_maker p))) (MadeBySome F.callable F.returns N.lawful) N.meaning (Adds (F.returns (lazy_maker p)) N.meaning) };
 
-    ghost parts = { λ p. 1 };
-
     ghost default_valid = { is_unmade_valid (KeptOf N.lawful N.meaning (MadeBySome F.callable F.returns N.lawful)) N.valid };
 
     ghost laws = { λ p l. made_is_meaning _ (MadeBySome F.callable F.returns N.lawful) N.meaning _ N.lawful (at_any_lasts (F.returns (lazy_maker p))) N.laws (λ v. l.1) };
@@ -97,8 +95,6 @@ impl<Input: Stream, N: Parser<Input> + Drop, F: MutFunction<(), Input, Output = 
     ghost valid = { valid_made (KeptOf N.lawful N.meaning (by_factory Input.view Input.marks Input.failures F.callable F.returns N.lawful)) N.valid };
 
     ghost meaning = { λ p. made_meaning (MadeAt Input.view (F.returns (factory_maker p) tt)) (by_factory Input.view Input.marks Input.failures F.callable F.returns N.lawful) N.meaning AddsNothing };
-
-    ghost parts = { λ p. 1 };
 
     ghost default_valid = { is_unmade_valid (KeptOf N.lawful N.meaning (by_factory Input.view Input.marks Input.failures F.callable F.returns N.lawful)) N.valid };
 

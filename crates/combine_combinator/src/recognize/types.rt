@@ -78,8 +78,6 @@ impl<Input: Stream, P: Parser<Input>, F: Append<Input::Token>> Parser<Input> for
 
     ghost meaning = { λ p. recognized_collecting F.held F.none F.more F.heapless (P.meaning (recognize_part p)) };
 
-    ghost parts = { λ p. 1 };
-
     ghost default_valid = { λ s d. P.default_valid _ d.1 };
 
     ghost laws = { λ p l. recognized_collecting_is_meaning F.held F.none F.more F.heapless (P.laws (recognize_part p) l) };

@@ -66,8 +66,6 @@ where
 
     ghost meaning = { λ p. spanned Q.cmp Input.Error.observers Input.step (P.meaning (spanned_part p)) };
 
-    ghost parts = { λ p. 1 };
-
     ghost default_valid = { P.default_valid };
 
     ghost laws = { λ p l. spanned_is_meaning Q.cmp Input.Error.observers Input.step (P.laws (spanned_part p) l) };

@@ -42,15 +42,7 @@ impl<Input: Stream, V: Drop> Parser<Input>
     for Unexpected<Input, V, Info<Input::Token, Input::Range>> {
     type PartialState = ();
 
-    ghost lawful = { λ p. Unit {0} };
-
-    ghost determined = { λ p. Unit {0} };
-
-    ghost valid = { λ s. Unit {0} };
-
     ghost meaning = { λ p. refuses_all Input.Error.observers (Only (SaysUnexpected (shown (unexpected_info p)))) };
-
-    ghost parts = { λ p. 1 };
 
     #[inline(always)]
     fn parse_mode<M: ParseMode>(

@@ -115,11 +115,7 @@ impl<Input: Stream, C: Call<Input>> Parser<Input> for Called<Input, C> {
 
     ghost determined = { λ p. IsSingle (FunctionReading Input.step Input.Error.observers.kind Input.view (C.answers (call_of p))) };
 
-    ghost valid = { λ s. Unit {0} };
-
     ghost meaning = { λ p. as_function Input.step Input.Error.observers.kind Input.view (C.answers (call_of p)) (C.infallible (call_of p) × NeedsNoMemory Input.step Input.Error.observers.kind Input.view (C.answers (call_of p))) };
-
-    ghost parts = { λ p. 1 };
 
     #[inline(always)]
     fn parse_mode<M: ParseMode>(

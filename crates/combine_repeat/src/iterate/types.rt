@@ -50,8 +50,6 @@ where
 
     ghost meaning = { λ p. iterated Input.step Input.Error.observers (AskedFor (F.returns (item_asker p))) (any_of Input.StreamOnce F.MutFunction N.lawful) N.meaning C.held C.none C.more (iterator_gives J.IntoIter.Iterator) (lists J.Clone J.IntoIterator J.IntoIter.Iterator (items_part p)) (C.heapless × J.is_infallible (items_part p)) };
 
-    ghost parts = { λ _. 1 };
-
     ghost default_valid = { items_start_valid _ _ _ };
 
     ghost laws = { λ p l. iterated_is_meaning Input.step Input.Error.observers _ _ N.meaning C.held C.none C.more _ _ _ N.lawful N.laws l.2 };

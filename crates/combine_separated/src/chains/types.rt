@@ -52,8 +52,6 @@ where
 
     ghost meaning = { λ p. chainl1 Input.step Input.Error.observers (λ f x y r. S.Output.answers f x y r) (P.meaning (chained_part p)) (S.meaning (chained_operator p)) };
 
-    ghost parts = { λ _. 1 };
-
     ghost default_valid = { fresh_turns_valid (separated_fresh P.PartialState.is_default) (separated_valid P.valid (led_valid (λ f. S.Output.callable f) S.valid P.valid)) (separated_default P.PartialState.is_default P.valid (led_valid (λ f. S.Output.callable f) S.valid P.valid) P.default_valid) };
 
     ghost laws = { λ p l. joined_is_meaning Input.step Input.Error.observers (OwnFirst 1 None) (folded (λ f x y r. S.Output.answers f x y r)) (λ f. S.Output.callable f) _ _ _ _ _ _ (P.laws (chained_part p) l.2) (S.laws (chained_operator p) l.1) };
@@ -131,8 +129,6 @@ where
     ghost valid = { λ s. separated_valid P.valid (led_valid (λ f. S.Output.callable f) S.valid P.valid) (running_turn s) × kept_good (λ f. S.Output.callable f) s };
 
     ghost meaning = { λ p. right_fold Input.step Input.Error.observers (λ f x y r. S.Output.answers f x y r) (P.meaning (right_part p)) (S.meaning (right_operator p)) };
-
-    ghost parts = { λ _. 1 };
 
     ghost default_valid = { λ s d. (fresh_turns_valid _ _ (separated_default _ _ _ P.default_valid) s d, nothing_good (λ f. S.Output.callable f) s d.0) };
 

@@ -56,8 +56,6 @@ impl<Input: Stream, A: Drop, P: Parser<Input, Output = A>, E: Parser<Input>, F: 
 
     ghost meaning = { λ p. repeat_until Input.step Input.Error.observers (some_appended F.held F.none F.more F.heapless) (P.meaning (blocks_part p)) (E.meaning (blocks_end p)) };
 
-    ghost parts = { λ _. 1 };
-
     ghost default_valid = { λ s d. rw d tt };
 
     ghost laws = { λ p l. until_is_meaning Input.step Input.Error.observers (some_appended F.held F.none F.more F.heapless) _ _ _ (next_is_meaning _ _ (E.laws (blocks_end p) l.0) (P.laws (blocks_part p) l.1)) };
@@ -110,8 +108,6 @@ impl<Input: Stream, A: Drop, P: Parser<Input, Output = A>, E: Parser<Input>> Par
     ghost valid = { until_valid (or_valid E.valid P.valid) };
 
     ghost meaning = { λ p. repeat_until Input.step Input.Error.observers some_dropped (P.meaning (skipped_part p)) (E.meaning (skipped_end p)) };
-
-    ghost parts = { λ _. 1 };
 
     ghost default_valid = { λ s d. rw d tt };
 

@@ -43,11 +43,7 @@ where
 
     ghost determined = { λ p. IsPredicate (among T.is_clone T.into_iter_gives T.IntoIter.next_gives p.tokens Input.Token.eq) };
 
-    ghost valid = { λ s. Unit {0} };
-
     ghost meaning = { λ p. takes_one Input.Error.observers (satisfied (among T.is_clone T.into_iter_gives T.IntoIter.next_gives p.tokens Input.Token.eq)) (T.is_infallible p.tokens) (expects_each T.is_clone T.into_iter_gives T.IntoIter.next_gives p.tokens) };
-
-    ghost parts = { λ p. 1 };
 
     #[inline(always)]
     fn parse_mode<M: ParseMode>(
@@ -105,11 +101,7 @@ where
 
     ghost determined = { λ p. IsPredicate (among T.is_clone T.into_iter_gives T.IntoIter.next_gives p.tokens Input.Token.eq) };
 
-    ghost valid = { λ s. Unit {0} };
-
     ghost meaning = { λ p. takes_one Input.Error.observers (satisfied (none_among T.is_clone T.into_iter_gives T.IntoIter.next_gives p.tokens Input.Token.eq)) (T.is_infallible p.tokens) AddsNothing };
-
-    ghost parts = { λ p. 1 };
 
     #[inline(always)]
     fn parse_mode<M: ParseMode>(
