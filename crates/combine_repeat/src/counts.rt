@@ -20,7 +20,7 @@ pub mod types;
 use crate::bounds::{MinToMax, TurnBounds};
 use crate::each::{Dropped, Each, SameParser};
 pub use crate::turns::TurnsState;
-use crate::turns::{Collect, Gathers, TurnProgress, take_turns};
+use crate::turns::{Collect, Gather, TurnProgress, take_turns};
 use combine_base::error::{ErrorOffset, ParseResult, Tracked};
 use combine_base::parser::{Outputs, ParseMode, Parser};
 use combine_base::stream::{Kind, Positioned, Stream, StreamOnce};
@@ -64,7 +64,7 @@ fn without_room<O, Input: Stream, S: Default + Drop>(
     ParseResult::CommitErr(input.new_error(Kind::Memory, input.position()))
 }
 
-impl<Input, G: Gathers, P, B> Outputs<Input> for Repeat<G, P, B> {
+impl<Input, P: Outputs<Input>, G: Gather<P::Output>, B> Outputs<Input> for Repeat<G, P, B> {
     type Output = G::Collection;
 }
 

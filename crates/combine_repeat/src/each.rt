@@ -4,7 +4,7 @@ ghost use Rattle.combine_repeat.specs.Turns.SoundValues.{any_sound};
 ghost use Rattle.combine_repeat.specs.Turns.Turn.{from_start, gives_any, plain_is_turn, plain_once};
 ghost use Rattle.combine_repeat.specs.Repeat.RepeatParsers.{each_of, plain_parser};
 
-use crate::turns::{Collect, Gather, Gathers, TurnParser};
+use crate::turns::{Collect, Gather, TurnParser};
 use combine_base::error::{ParseResult, Tracked};
 use combine_base::parser::{ParseMode, Parser};
 use combine_base::repeat::Append;
@@ -85,11 +85,9 @@ impl<F> Each<F> {
     }
 }
 
-impl<F: Drop> Gathers for Each<F> {
-    type Collection = F;
-}
-
 impl<A, F: Append<A>> Gather<A> for Each<F> {
+    type Collection = F;
+
     ghost Held = { F.Held };
 
     ghost held = { F.held };
@@ -97,10 +95,6 @@ impl<A, F: Append<A>> Gather<A> for Each<F> {
     ghost none = { F.none };
 
     ghost more = { λ h a i. i ≡ F.more h a };
-
-    ghost able = { λ _. Unit {0} };
-
-    ghost sound = { λ _. Unit {0} };
 
     ghost heapless = { F.heapless };
 
@@ -137,11 +131,9 @@ impl<A, F: Append<A>> Collect<A> for Each<F> {
 #[derive(Clone, Copy, Drop)]
 pub struct Dropped;
 
-impl Gathers for Dropped {
-    type Collection = ();
-}
-
 impl<A: Drop> Gather<A> for Dropped {
+    type Collection = ();
+
     ghost Held = { Unit {0} };
 
     ghost held = { λ _. tt };
@@ -149,10 +141,6 @@ impl<A: Drop> Gather<A> for Dropped {
     ghost none = { tt };
 
     ghost more = { λ _ _ i. i ≡ tt };
-
-    ghost able = { λ _. Unit {0} };
-
-    ghost sound = { λ _. Unit {0} };
 
     ghost heapless = { Unit {0} };
 

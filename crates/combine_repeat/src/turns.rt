@@ -99,16 +99,13 @@ pub trait TurnParser<Input: Stream> {
     ghost gives_only: { (p : Self) → lawful p → TurnsGive valid (meaning p) (again p) gives };
 }
 
-/// What turns are gathered into, apart from how: a trait of its own, as [`Outputs`](combine_base::parser::Outputs) is.
-pub trait Gathers {
-    /// What it is gathered into.
-    type Collection: Drop;
-}
-
-/// How what turns give is gathered.
-pub trait Gather<A>: Gathers {
+/// How the values of turns are gathered.
+pub trait Gather<A> {
     ghost use Rattle.std.specs.Prelude.{◌≡◌, MatchResult};
     ghost use Rattle.combine_repeat.specs.Turns.SoundValues.{KeepsSound};
+
+    /// What they are gathered into.
+    type Collection: Drop;
 
     ghost Held: { Type 0 };
 
@@ -121,10 +118,10 @@ pub trait Gather<A>: Gathers {
     ghost more: { Held → A → Held → Type 0 };
 
     /// What gathering needs of a value, as that a function can be called.
-    ghost able: { A → Type 0 };
+    ghost able: { A → Type 0 } = { λ _. Unit {0} };
 
     /// What is known of what is held, where each value of it met that need.
-    ghost sound: { Held → Type 0 };
+    ghost sound: { Held → Type 0 } = { λ _. Unit {0} };
 
     /// Holds where it takes no memory.
     ghost heapless: { Type 0 };

@@ -6,7 +6,7 @@ ghost use Rattle.combine_repeat.specs.Turns.SoundValues.{any_sound};
 
 use crate::separated::{Element, Folds};
 use combine_base::repeat::Append;
-use combine_repeat::turns::{Gather, Gathers, Reduce};
+use combine_repeat::turns::{Gather, Reduce};
 use std::alloc::AllocError;
 use std::marker::PhantomData;
 
@@ -14,11 +14,9 @@ use std::marker::PhantomData;
 #[derive(Drop)]
 pub struct EachElement<F>(PhantomData<F>);
 
-impl<F: Drop> Gathers for EachElement<F> {
-    type Collection = F;
-}
-
 impl<O: Drop, A, F: Append<A>> Gather<Element<O, A>> for EachElement<F> {
+    type Collection = F;
+
     ghost Held = { F.Held };
 
     ghost held = { F.held };
@@ -26,10 +24,6 @@ impl<O: Drop, A, F: Append<A>> Gather<Element<O, A>> for EachElement<F> {
     ghost none = { F.none };
 
     ghost more = { each_element (λ h a i. i ≡ F.more h a) };
-
-    ghost able = { λ _. Unit {0} };
-
-    ghost sound = { λ _. Unit {0} };
 
     ghost heapless = { F.heapless };
 
@@ -55,12 +49,10 @@ impl<O: Drop, A, F: Append<A>> Gather<Element<O, A>> for EachElement<F> {
 #[derive(Drop)]
 pub struct Folded<V>(PhantomData<V>);
 
-impl<V: Drop> Gathers for Folded<V> {
-    type Collection = V;
-}
-
 impl<V: Drop, O: Folds<V> + Drop> Gather<Element<O, V>> for Folded<V> {
     ghost use Rattle.std.specs.Prelude.{None, Option, Some};
+
+    type Collection = V;
 
     ghost Held = { Option V };
 
@@ -71,8 +63,6 @@ impl<V: Drop, O: Folds<V> + Drop> Gather<Element<O, V>> for Folded<V> {
     ghost more = { folds (λ f x y r. O.answers f x y r) };
 
     ghost able = { lead_good (λ f. O.callable f) };
-
-    ghost sound = { λ _. Unit {0} };
 
     ghost heapless = { Unit {0} };
 

@@ -17,7 +17,7 @@ use combine_base::parser::{FirstMode, ParseMode, Parser};
 use combine_base::repeat::Append;
 use combine_base::stream::{Stream, needs_more};
 use combine_choice::or::types::Optional;
-use combine_repeat::turns::{Gather, Gathers, TurnParser};
+use combine_repeat::turns::{Gather, TurnParser};
 use std::alloc::AllocError;
 use std::marker::PhantomData;
 use std::mem;
@@ -33,11 +33,9 @@ pub struct Ended<P, S> {
 #[derive(Drop)]
 pub struct EachSome<F>(PhantomData<F>);
 
-impl<F: Drop> Gathers for EachSome<F> {
-    type Collection = F;
-}
-
 impl<A, F: Append<A>> Gather<Option<A>> for EachSome<F> {
+    type Collection = F;
+
     ghost Held = { F.Held };
 
     ghost held = { F.held };
@@ -45,10 +43,6 @@ impl<A, F: Append<A>> Gather<Option<A>> for EachSome<F> {
     ghost none = { F.none };
 
     ghost more = { some_more (λ h a i. i ≡ F.more h a) };
-
-    ghost able = { λ _. Unit {0} };
-
-    ghost sound = { λ _. Unit {0} };
 
     ghost heapless = { F.heapless };
 

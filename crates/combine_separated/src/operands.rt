@@ -5,7 +5,7 @@ ghost use Rattle.combine_separated.specs.declared.operands.PendingOperand.{Pendi
 ghost use Rattle.combine_separated.specs.Separated.{lead_good};
 
 use crate::separated::{Element, Folds};
-use combine_repeat::turns::{Gather, Gathers, Reduce};
+use combine_repeat::turns::{Gather, Reduce};
 use std::alloc::{AllocError, Global};
 use std::marker::PhantomData;
 
@@ -45,12 +45,10 @@ impl<O: Folds<V> + Drop, V: Drop> ChainOperands<O, V> {
 #[derive(Drop)]
 pub struct EachOperand<O, V>(PhantomData<(O, V)>);
 
-impl<O: Drop, V: Drop> Gathers for EachOperand<O, V> {
-    type Collection = ChainOperands<O, V>;
-}
-
 impl<V: Drop, O: Folds<V> + Drop> Gather<Element<O, V>> for EachOperand<O, V> {
     ghost use Rattle.std.specs.Prelude.{None, Option, Some};
+
+    type Collection = ChainOperands<O, V>;
 
     ghost Held = { Option (List (PendingOperand O V) × V) };
 
