@@ -90,7 +90,6 @@ pub use Rattle.combine_choice.specs.MergedErrors
 pub use Rattle.combine_separated.specs.PartCalls
 pub use Rattle.combine_repeat.specs.Repeat.Repeated
 pub use Rattle.combine_repeat.specs.Repeat.Counts
-pub use Rattle.combine_repeat.specs.Turns.FirstTurn
 pub use Rattle.combine_repeat.specs.Repeat.OneThenTurns
 pub use Rattle.combine_repeat.specs.Turns.OneTurn
 pub use Rattle.combine_repeat.specs.Repeat.RepeatParsers
