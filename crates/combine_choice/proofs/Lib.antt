@@ -1,7 +1,2 @@
 pub mod HeldAnswers
-pub mod EqualValues
-pub mod AlternativeLists
-pub mod MergedErrors
-pub mod RefusedAlternatives
-pub mod SliceCalls
 pub mod Choices

@@ -9,9 +9,4 @@ pub use Rattle.combine_base.specs.Stream.View
 pub use Rattle.combine_base.specs.Predicates
 pub mod HeldParser
 pub mod Variants2
-pub mod ListChoice
-pub mod MergedErrors
-pub mod NestedChoice
-pub mod SliceCalls
-pub mod ChoiceParsers
 pub mod Choice

@@ -1,7 +1,6 @@
-//! Choices.
+//! A choice of two parsers, one of several by kind, and the macros of both.
 #![tactic(auto)]
 
-pub mod lists;
 pub mod or;
 pub mod variants;
 

@@ -3,7 +3,6 @@ pub mod TurnCalls
 pub mod OneTurn
 pub mod SoundValues
 pub mod RepeatCalls
-pub mod FirstTurn
 pub mod TurnRefusals
 pub mod PlainTurns
 pub mod DroppedValues

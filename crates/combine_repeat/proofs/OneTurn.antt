@@ -62,7 +62,7 @@ module _ {P T R A V S E : Type 0} (w : World P T S E) (b : Bounds) (ending : A �
   needs_on t i e q p h =
       let a = need_of_more w m r e q.0 (sym (same_mark w m r e p) ∙ q.1) p in
       let x = h a.count r.old s a.taken in
-      record { needs = q; answers = p; index = i.index; cut = λ k y. ap (λ (z : TurnProgress V). z.index) (h k r.old s y); turns = rw x refl }
+      record { needs = q; answers = p; index = i.index; number = ap (λ (z : TurnProgress V). z.index.number) x; cut = λ k y. ap (λ (z : TurnProgress V). z.index) (h k r.old s y); turns = rw x refl }
 
 module _ {P T R A V S E : Type 0} (w : World P T S E) (b : Bounds) (ending : A → Bool) (c : Collecting A V) (m : Meaning P T R E A S) (t : TurnProgress V) where
   -- the same where the stream could not be put back
@@ -109,7 +109,7 @@ module _ {P T R A S E : Type 0} (w : World P T S E) (b : Bounds) (ending : A →
     pub halted_same : (x : TurnStop V E) → turns_halted w b ending c m' r t x → turns_halted w b ending c m r t x
     halted_same (stop.Over n) p = over_same n p
     halted_same (stop.Refused n e) p = record { missing = p.missing; answers = answers_same w m m' h r (PeekErr e) p.answers; turns = p.turns }
-    halted_same (stop.More n e) p = record { needs = p.needs; answers = answers_same w m m' h r (CommitErr e) p.answers; index = p.index; cut = p.cut; turns = p.turns }
+    halted_same (stop.More n e) p = record { needs = p.needs; answers = answers_same w m m' h r (CommitErr e) p.answers; index = p.index; number = p.number; cut = p.cut; turns = p.turns }
     halted_same (stop.Failed e) p = fails_same e p
 
     pub turned_same : (x : TurnStep V E) → TurnDid w b ending c m' r t x → TurnDid w b ending c m r t x

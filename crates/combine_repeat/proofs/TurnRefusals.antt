@@ -10,13 +10,11 @@ use Rattle.combine_base.specs.Sequence.Parts.{accepted_as, refused_as}
 use Rattle.combine_base.specs.Stream.View.{View, advanced}
 use Rattle.combine_base.specs.declared.error.ParseResult.TheVariants.{CommitErr, PeekErr}
 use Rattle.combine_base.specs.declared.error.Tracked.{Tracked}
-use Rattle.combine_repeat.specs.Turns.Bounds.{full_at, is_block_at, judged, kept_or, turn_after, none_yet, running_turn, so_far, so_far_or, TurnMissing, Own, RefusesHere, RefusesOnward, StartsInto, StopRefuses, here_into, turns_from}
-use Rattle.combine_repeat.specs.Turns.FirstTurn.{FirstGoes}
+use Rattle.combine_repeat.specs.Turns.Bounds.{full_at, is_block_at, judged, kept_or, turn_after, running_turn, so_far, so_far_or, RefusesHere, RefusesOnward, StartsInto, StopRefuses, here_into, turns_from}
 use Rattle.combine_repeat.specs.Turns.OneTurn.{IsTurnBlock, stopped_answer}
 use Rattle.combine_repeat.specs.Turns.Turn.{Start, called, from_start, from_state, started}
 use Rattle.combine_repeat.specs.Turns.Blocks.{Collecting, TakesBlock, TurnsSoFar}
 use Rattle.combine_repeat.specs.declared.bounds.Bounds.{Bounds}
-use Rattle.combine_repeat.specs.declared.bounds.Bounds.TheVariants.{OwnFirst}
 use Rattle.combine_repeat.specs.declared.turns.Earlier.{Earlier}
 use Rattle.combine_repeat.specs.declared.turns.Earlier.TheVariants.{Nothing, Gathered}
 use Rattle.combine_repeat.specs.declared.bounds.TurnIndex.{TurnIndex}
@@ -24,7 +22,6 @@ use Rattle.combine_repeat.specs.declared.turns.TurnStop.{TurnStop}
 use Rattle.combine_repeat.specs.declared.turns.TurnStop.TheVariants as stop
 use Rattle.combine_repeat.specs.declared.turns.TurnProgress.{TurnProgress}
 use Rattle.combine_repeat.specs.declared.turns.TurnsState.{TurnsState}
-use Rattle.combine_repeat.proofs.FirstTurn.{first_turn_place}
 use Rattle.combine_repeat.proofs.RepeatCalls.{judged_goes}
 
 -- turns at the same place, behind the same ones
@@ -47,16 +44,6 @@ module _ {P T R A V S E : Type 0} (step : P → T → P) (errors : Observers T R
             let y = subst (λ z. RefusesOnward step errors b ending again (from_state m z) g k old new d e) q.0 x in
             placed step errors b ending again (from_state m (running_turn state)) old new d e g (so_far_or start c.held state.earlier).mark k (so_far_or start c.held state.earlier).committed q.1 q.2 y;
       }
-
-  -- a call that begins with what is kept
-  pub leads_kept : (first : Bool) (state : TurnsState V S) (t : TurnProgress V) (s : S) (old : View P T) → first ≡ false → state.earlier ≡ Gathered t → state.running ≡ s → LeadsRefusals first state old (started (called m again false) first s) t.index t.committed old
-  leads_kept true state t s old f i j = absurd (cc)
-  leads_kept false state t s old f i j = leads_from false state s t.index t.committed old (λ x. absurd (cc)) (λ x. (sym j, subst (λ z. t.index ≡ (so_far_or start c.held z).mark) (sym i) refl, subst (λ z. t.committed ≡ (so_far_or start c.held z).committed) (sym i) refl))
-
-  -- a call that begins with nothing kept
-  pub leads_entered : (first : Bool) (state : TurnsState V S) (s : S) (old : View P T) → (first ≡ false → (state.earlier ≡ Nothing) × (state.running ≡ s)) → LeadsRefusals first state old (started (called m again false) first s) start.mark start.committed old
-  leads_entered true state s old h = leads_from true state s start.mark start.committed old (λ x. (refl, refl)) (λ x. absurd (cc))
-  leads_entered false state s old h = leads_from false state s start.mark start.committed old (λ x. absurd (cc)) (λ x. (sym (h refl).1, subst (λ z. start.mark ≡ (so_far_or start c.held z).mark) (sym (h refl).0) refl, subst (λ z. start.committed ≡ (so_far_or start c.held z).committed) (sym (h refl).0) refl))
 
   module _ (s : Start P T E A) (old new : View P T) (first : Bool) (state : TurnsState V S) (begun_at : View P T) where
     -- the turn that runs is the refusal
@@ -97,22 +84,6 @@ module _ {P T R A V S E : Type 0} (w : World P T S E) (errors : Observers T R P 
   leads_on later r t n first state old nf g h =
       let a = g.judged.accepts in
       record { is = λ left d e x. h.is left d e (behind (started (called m again later) r.first r.state) t.index t.committed g.turn.0 a.count g.turn.1 n g.held r.old r.new g.turns nf a.meant (judged_goes a.count g.turn.1 (ending g.turn.0) (is_block_at b t.index a.count g.turn.1) g.judged.on g.judged.says) a.taken.rest left d e x) }
-
--- turns of which the first is asked for, and makes what is gathered
-module _ {P T R A V S E : Type 0} (w : World P T S E) (errors : Observers T R P E) (ending : A → Bool) (c : Collecting A V) (none : c.Held) (m : Meaning P T R E A S) (again : Start P T E A) where
-  pub leads_first_on : ((a : A) → ending a ≡ false) → (r : CallRecord P T S) (n : TurnProgress V) (first : Bool) (state : TurnsState V S) (old : View P T) → FirstGoes w c none (called m again false) r n → LeadsRefusals w.step errors (OwnFirst 1 None) ending c (none_yet none) m again first state old (started (called m again false) r.first r.state) (first_turn_place false) false r.old → LeadsRefusals w.step errors (OwnFirst 1 None) ending c (none_yet none) m again first state old again n.index n.committed r.new
-  leads_first_on never r n first state old g h =
-      let a = g.accepts in
-      record { is = λ left d e x. h.is left d e (behind w errors (OwnFirst 1 None) ending c (none_yet none) m again (started (called m again false) r.first r.state) (first_turn_place false) false g.turn.0 a.count g.turn.1 n g.held r.old r.new g.turns refl a.meant (judged_goes a.count g.turn.1 (ending g.turn.0) true (never g.turn.0) refl) a.taken.rest left d e x) }
-
-module _ {P T R A V S E : Type 0} (step : P → T → P) (errors : Observers T R P E) (ending : A → Bool) (c : Collecting A V) (none : c.Held) (m : Meaning P T R E A S) (again : Start P T E A) (s : Start P T E A) (v new : View P T) (first : Bool) (state : TurnsState V S) (old : View P T) (h : LeadsRefusals step errors (OwnFirst 1 None) ending c (none_yet none) m again first state old s (first_turn_place false) false v) where
-  pub first_refused_leads : (t : Tracked E) → MeantRefusal s.reads s.refuses v new false t.error → ReasonedCall errors (turns_from step errors (OwnFirst 1 None) ending c (none_yet none) m again) first state old new (PeekErr t)
-  first_refused_leads t x true e i = absurd i.is
-  first_refused_leads t x false e i = here step errors (OwnFirst 1 None) ending c (none_yet none) m again s v new first state old (first_turn_place false) false refl h false false e (TurnMissing refl refl refl (rw i.is x)) refl
-
-  pub first_failed_leads : (d : E) → (IsRefusal new.is_open (errors.kind d) → MeantRefusal s.reads s.refuses v new true d) → ReasonedCall errors (turns_from step errors (OwnFirst 1 None) ending c (none_yet none) m again) first state old new (CommitErr d)
-  first_failed_leads d x true e i = here step errors (OwnFirst 1 None) ending c (none_yet none) m again s v new first state old (first_turn_place false) false refl h true true e (Own refl (rw i.is.0 (x i.is.1))) refl
-  first_failed_leads d x false e i = absurd i.is
 
 -- a call in first mode, whatever is kept, or one that resumes what is kept, if something is
 module _ {P T R A V S E : Type 0} (step : P → T → P) (errors : Observers T R P E) (b : Bounds) (ending : A → Bool) (c : Collecting A V) (from : TurnProgress V) (m : Meaning P T R E A S) (again : Start P T E A) where

@@ -96,6 +96,8 @@ impl<A, F: Append<A>> Gather<A> for Each<F> {
 
     ghost more = { λ h a i. i ≡ F.more h a };
 
+    ghost sound = { λ _ _. Unit {0} };
+
     ghost heapless = { F.heapless };
 
     #[inline(always)]
@@ -125,6 +127,8 @@ impl<A, F: Append<A>> Collect<A> for Each<F> {
     }
 
     ghost takes_any = { λ a. tt };
+
+    ghost holds_any = { λ k h. tt };
 }
 
 /// No value is kept.
@@ -141,6 +145,8 @@ impl<A: Drop> Gather<A> for Dropped {
     ghost none = { tt };
 
     ghost more = { λ _ _ i. i ≡ tt };
+
+    ghost sound = { λ _ _. Unit {0} };
 
     ghost heapless = { Unit {0} };
 
@@ -166,4 +172,6 @@ impl<A: Drop> Collect<A> for Dropped {
     }
 
     ghost takes_any = { λ a. tt };
+
+    ghost holds_any = { λ k h. tt };
 }

@@ -8,17 +8,15 @@ ghost use Rattle.combine_base.specs.Error.Errors.{Only};
 ghost use Rattle.combine_base.specs.Error.Items.{Count, Message};
 ghost use Rattle.combine_base.specs.Refusals.{HasItems};
 ghost use Rattle.combine_base.specs.Sequence.Parts.{accepted_as, refused_as};
-ghost use Rattle.std.specs.Prelude.{None};
 ghost use Rattle.combine_repeat.specs.Turns.OneTurn.{IsGathered, stopped_answer, stopped_state};
-ghost use Rattle.combine_repeat.specs.Turns.SoundValues.{LeavesSound, kept_sound};
-ghost use Rattle.combine_repeat.specs.Turns.Bounds.{FirstRefuses, JudgesRefusal, TurnStepRefuses, turns_from, gathered, cut_at, fresh_turns, kept_or, none_yet, running_turn, so_far};
+ghost use Rattle.combine_repeat.specs.Turns.SoundValues.{LeavesSound, kept_sound, sound_at};
+ghost use Rattle.combine_repeat.specs.Turns.Bounds.{JudgesRefusal, TurnStepRefuses, turns_from, gathered, cut_at, fresh_turns, kept_or, running_turn, so_far};
 ghost use Rattle.combine_repeat.specs.Turns.Turn.{TurnsSame, called, started};
-ghost use Rattle.combine_repeat.specs.Turns.TurnCalls.{FirstTurnCall, HaltsCall, OneTurnCall, TurnsCall};
-ghost use Rattle.combine_repeat.specs.declared.bounds.Bounds.TheVariants.{OwnFirst};
+ghost use Rattle.combine_repeat.specs.Turns.TurnCalls.{HaltsCall, OneTurnCall, TurnsCall};
 
 mod entry;
 
-use crate::bounds::{FirstThenMore, TurnBounds, TurnIndex, is_enough};
+use crate::bounds::{TurnBounds, TurnIndex, is_enough};
 use combine_base::error::{Info, ParseError, ParseResult, Tracked, accepted_after, refused_after};
 use combine_base::parser::{ParseMode, Parser};
 use combine_base::refusal::refusal_saying;
@@ -101,7 +99,7 @@ pub trait TurnParser<Input: Stream> {
 
 /// How the values of turns are gathered.
 pub trait Gather<A> {
-    ghost use Rattle.std.specs.Prelude.{◌≡◌, MatchResult};
+    ghost use Rattle.std.specs.Prelude.{◌≡◌, Bool, MatchResult};
     ghost use Rattle.combine_repeat.specs.Turns.SoundValues.{KeepsSound};
 
     /// What they are gathered into.
@@ -120,8 +118,8 @@ pub trait Gather<A> {
     /// What gathering needs of a value, as that a function can be called.
     ghost able: { A → Type 0 } = { λ _. Unit {0} };
 
-    /// What is known of what is held, where each value of it met that need.
-    ghost sound: { Held → Type 0 } = { λ _. Unit {0} };
+    /// What is known of what is held, where no turn is over or one is, and each value of it met that need.
+    ghost sound: { Bool → Held → Type 0 };
 
     /// Holds where it takes no memory.
     ghost heapless: { Type 0 };
@@ -149,20 +147,10 @@ pub trait Collect<A>: Gather<A> {
     fn keeps(&self) -> bool
         ensures { result ≡ keeps };
 
-    /// It takes each value.
+    /// It takes each value, and nothing is asked of what is held.
     ghost takes_any: { (a : A) → Self.able a };
-}
 
-/// How values are gathered from a first one on, which makes what they are gathered into.
-pub trait Reduce<A>: Gather<A> {
-    ghost use Rattle.std.specs.Prelude.{MatchResult};
-
-    /// What that is made from.
-    type Seed: Copy;
-
-    /// Makes what is gathered of the first value.
-    fn begin(from: Self::Seed, value: A) -> Result<Self::Collection, AllocError>
-        ensures { MatchResult result (λ i. Self.more Self.none value (Self.held i)) (λ _. Self.heapless → ⊥) };
+    ghost holds_any: { (k : Bool) (h : Self.Held) → Self.sound k h };
 }
 
 /// The turns so far: what is gathered, whether one committed, and which one runs.
@@ -273,22 +261,7 @@ impl<F, S: Default> Default for TurnsState<F, S> {
 }
 
 impl<F: Drop, S: Default + Drop> TurnsState<F, S> {
-    /// Hands out the turns that are kept, if the call resumes. Else there are none, and the state of the turn that runs is a default one.
-    #[inline(always)]
-    fn hand_out(&mut self, first: bool) -> Earlier<F>
-        ensures resumed { first ≡ false → (result ≡ self.old.earlier) × (self.new.running ≡ self.old.running) }
-        ensures afresh { first ≡ true → (result ≡ Earlier.Nothing) × S.is_default self.new.running }
-        ensures left { self.new.earlier ≡ Earlier.Nothing }
-    {
-        let earlier = mem::replace(&mut self.earlier, Earlier::Nothing);
-        if first {
-            self.running = S::default();
-            return Earlier::Nothing;
-        }
-        earlier
-    }
-
-    /// Returns the turns that are kept, if the call resumes and there are any; else those of the start.
+    /// Takes the turns that are kept, if the call resumes and there are any; else those of the start. A call that begins afresh runs its first turn from a default state.
     #[inline(always)]
     fn begin(&mut self, first: bool, start: TurnProgress<F>) -> TurnProgress<F>
         ensures turns { result ≡ (if first then start else kept_or start self.old.earlier) }
@@ -296,7 +269,12 @@ impl<F: Drop, S: Default + Drop> TurnsState<F, S> {
         ensures afresh { first ≡ true → S.is_default self.new.running }
         ensures left { self.new.earlier ≡ Earlier.Nothing }
     {
-        match self.hand_out(first) {
+        let earlier = mem::replace(&mut self.earlier, Earlier::Nothing);
+        if first {
+            self.running = S::default();
+            return start;
+        }
+        match earlier {
             Earlier::Gathered(turns) => turns,
             Earlier::Nothing => start,
         }
@@ -321,30 +299,6 @@ pub enum TurnStop<F, E> {
     More(TurnProgress<F>, E),
     /// The turn is refused committed, takes nothing, or met a fault.
     Failed(E),
-}
-
-/// Parses the first turn, which begins afresh or resumes.
-#[inline(always)]
-fn parse_turn<Input: Stream, P: TurnParser<Input>, M: ParseMode>(
-    parser: &mut P,
-    mode: M,
-    input: &mut Input,
-    state: &mut P::Running,
-) -> ParseResult<P::Value, Input::Error>
-    requires lawful { P.lawful parser.old }
-    requires valid { P.valid state.old }
-    requires fresh { M.first mode ≡ true → P.Running.is_default state.old }
-    ensures lawful { P.lawful parser.new }
-    ensures valid { P.valid state.new }
-    ensures same { TurnsSame (P.meaning parser.old) (P.again parser.old) (P.meaning parser.new) (P.again parser.new) }
-    ensures passes { Passes (Input.marks input.old) (Input.marks input.new) (Input.failures input.old) (Input.failures input.new) }
-    ensures answers { AnswersCall Input.StreamOnce Input.Error.observers P.Running.is_default (called (P.meaning parser.old) (P.again parser.old) false) (M.first mode) state.old state.new input.old input.new result }
-    ensures refuses { ReasonedCall Input.Error.observers (called (P.meaning parser.old) (P.again parser.old) false) (M.first mode) state.old (Input.view input.old) (Input.view input.new) result }
-{
-    if mode.is_first() {
-        return Afresh { later: false }.enter(parser, input, state);
-    }
-    parser.parse_turn(false, mode, input, state)
 }
 
 /// Makes the error of a refusal of that kind that says how many turns are missing.
@@ -466,62 +420,6 @@ fn one_turn<G: Gather<P::Value>, Input: Stream, P: TurnParser<Input>, B: TurnBou
     }
 }
 
-/// What the first turn did, where it makes what is gathered.
-pub enum FirstStep<F, E> {
-    /// It is a block, and the next one runs.
-    Goes(TurnProgress<F>),
-    /// It is refused peeked.
-    Refused(Tracked<E>),
-    /// It needs more.
-    More(E),
-    /// It is refused committed, or met a fault.
-    Failed(E),
-}
-
-/// Runs the first turn, which is asked for and makes what is gathered.
-#[inline(always)]
-fn first_turn<G: Reduce<P::Value>, Input: Stream, P: TurnParser<Input>, M: ParseMode>(
-    parser: &mut P,
-    from: G::Seed,
-    mode: M,
-    input: &mut Input,
-    running: &mut P::Running,
-) -> FirstStep<G::Collection, Input::Error>
-    requires lawful { P.lawful parser.old }
-    requires valid { P.valid running.old }
-    requires fresh { M.first mode ≡ true → P.Running.is_default running.old }
-    ensures lawful { P.lawful parser.new }
-    ensures valid { P.valid running.new }
-    ensures same { TurnsSame (P.meaning parser.old) (P.again parser.old) (P.meaning parser.new) (P.again parser.new) }
-    ensures passes { Passes (Input.marks input.old) (Input.marks input.new) (Input.failures input.old) (Input.failures input.new) }
-    ensures turned { FirstTurnCall Input.StreamOnce Input.Error.observers P.Running.is_default (gathered G.held G.none G.more G.heapless) G.none (called (P.meaning parser.old) (P.again parser.old) false) (M.first mode) running.old running.new input.old input.new result }
-    ensures refuses { FirstRefuses Input.Error.observers (started (called (P.meaning parser.old) (P.again parser.old) false) (M.first mode) running.old) (Input.view input.old) (Input.view input.new) result }
-{
-    let position = input.position();
-    let (value, committed) = match parse_turn(parser, mode, input, running) {
-        ParseResult::CommitOk(value) => (value, true),
-        ParseResult::PeekOk(value) => (value, false),
-        ParseResult::PeekErr(refusal) => return FirstStep::Refused(refusal),
-        ParseResult::CommitErr(error) => {
-            if needs_more(input, &error) {
-                return FirstStep::More(error);
-            }
-            return FirstStep::Failed(error);
-        }
-    };
-    match G::begin(from, value) {
-        Ok(into) => FirstStep::Goes(TurnProgress {
-            into,
-            committed,
-            index: TurnIndex {
-                number: 1,
-                took_before: false,
-            },
-        }),
-        Err(_refused) => FirstStep::Failed(input.new_error(Kind::Memory, position)),
-    }
-}
-
 /// Returns the result of turns that stopped for this reason. If they need more, they are kept in `state`.
 #[inline(always)]
 fn stopped<F: Drop, S: Drop, E: Drop>(
@@ -559,10 +457,12 @@ pub fn take_turns<
     state: &mut TurnsState<G::Collection, P::Running>,
 ) -> ParseResult<G::Collection, Input::Error>
     requires able { (a : P.Value) → P.gives a → G.able a }
+    requires sound { kept_sound (λ k i. G.sound k (G.held i)) state.old × sound_at (λ k i. G.sound k (G.held i)) start }
     requires lawful { P.lawful parser.old }
     requires valid { P.valid (running_turn state.old) }
     ensures lawful { P.lawful parser.new }
     ensures valid { P.valid (running_turn state.new) }
+    ensures sound { LeavesSound (B.bounds bounds) P.ending (λ k i. G.sound k (G.held i)) state.new result }
     ensures same { TurnsSame (P.meaning parser.old) (P.again parser.old) (P.meaning parser.new) (P.again parser.new) }
     ensures passes { Passes (Input.marks input.old) (Input.marks input.new) (Input.failures input.old) (Input.failures input.new) }
     ensures answers { TurnsCall Input.StreamOnce Input.Error.observers P.Running.is_default (B.bounds bounds) P.ending (gathered G.held G.none G.more G.heapless) (so_far G.held start) (P.meaning parser.old) (P.again parser.old) (M.first mode) state.old state.new input.old input.new result }
@@ -607,69 +507,6 @@ pub fn take_turns<
                 turns = next;
                 later = true;
             }
-        }
-    }
-}
-
-/// Makes one call of turns as `take_turns` does, but the first value makes what is gathered, as for `chainl1`. At least one turn is asked for.
-#[inline(always)]
-pub fn reduce_turns<G: Reduce<P::Value>, Input: Stream, P: TurnParser<Input>, M: ParseMode>(
-    parser: &mut P,
-    from: G::Seed,
-    mode: M,
-    input: &mut Input,
-    state: &mut TurnsState<G::Collection, P::Running>,
-) -> ParseResult<G::Collection, Input::Error>
-    requires able { (a : P.Value) → P.gives a → G.able a }
-    requires sound { kept_sound (λ i. G.sound (G.held i)) state.old }
-    requires never { (a : P.Value) → P.ending a ≡ false }
-    requires lawful { P.lawful parser.old }
-    requires valid { P.valid (running_turn state.old) }
-    ensures lawful { P.lawful parser.new }
-    ensures valid { P.valid (running_turn state.new) }
-    ensures sound { LeavesSound (λ i. G.sound (G.held i)) state.new result }
-    ensures same { TurnsSame (P.meaning parser.old) (P.again parser.old) (P.meaning parser.new) (P.again parser.new) }
-    ensures passes { Passes (Input.marks input.old) (Input.marks input.new) (Input.failures input.old) (Input.failures input.new) }
-    ensures answers { TurnsCall Input.StreamOnce Input.Error.observers P.Running.is_default (OwnFirst 1 None) P.ending (gathered G.held G.none G.more G.heapless) (none_yet G.none) (P.meaning parser.old) (P.again parser.old) (M.first mode) state.old state.new input.old input.new result }
-    ensures refuses { ReasonedCall Input.Error.observers (turns_from Input.step Input.Error.observers (OwnFirst 1 None) P.ending (gathered G.held G.none G.more G.heapless) (none_yet G.none) (P.meaning parser.old) (P.again parser.old)) (M.first mode) state.old (Input.view input.old) (Input.view input.new) result }
-{
-    let bounds = FirstThenMore::<1>;
-    let mut turns: TurnProgress<G::Collection>;
-    let given = state.hand_out(mode.is_first());
-    match given {
-        Earlier::Gathered(kept) => {
-            match one_turn::<G, Input, P, FirstThenMore<1>, Resumed<M>>(
-                parser,
-                bounds,
-                Resumed { mode },
-                kept,
-                input,
-                &mut state.running,
-            ) {
-                TurnStep::Stops(why) => return stopped(why, state),
-                TurnStep::Goes(next) => turns = next,
-            }
-        }
-        Earlier::Nothing => {
-            match first_turn::<G, Input, P, M>(parser, from, mode, input, &mut state.running) {
-                FirstStep::Goes(next) => turns = next,
-                FirstStep::Refused(refusal) => return ParseResult::PeekErr(refusal),
-                FirstStep::More(error) => return ParseResult::CommitErr(error),
-                FirstStep::Failed(error) => return ParseResult::CommitErr(error),
-            }
-        }
-    }
-    'turns: loop {
-        match one_turn::<G, Input, P, FirstThenMore<1>, Afresh>(
-            parser,
-            bounds,
-            Afresh { later: true },
-            turns,
-            input,
-            &mut state.running,
-        ) {
-            TurnStep::Stops(why) => return stopped(why, state),
-            TurnStep::Goes(next) => turns = next,
         }
     }
 }

@@ -1,5 +1,9 @@
--- operands folded from the right, the last operator first
-use Rattle.std.proofs.Common.{◌≡◌, List, [], ◌∷◌, ◌++◌, length, refl, arith}
+-- chains: one operand at least, and operands folded from the right, the last operator first
+use Rattle.std.proofs.Common.{ℕ, zero, suc, ◌-◌, nat_lt, not, ◌≡◌, Bool, true, false, List, [], ◌∷◌, ◌++◌, None, length, refl, arith}
+use Rattle.combine_repeat.specs.Repeat.Repeated.{no_value_ends}
+use Rattle.combine_repeat.specs.Turns.SoundValues.{EndsAt, Full, Enough, ByValue, EndsSound}
+use Rattle.combine_repeat.specs.declared.bounds.Bounds.TheVariants.{OwnFirst}
+use Rattle.combine_repeat.specs.declared.bounds.TurnIndex.{TurnIndex}
 use Rattle.combine_separated.specs.Chains.{all_good, folded_right}
 use Rattle.combine_separated.specs.declared.operands.PendingOperand.{PendingOperand}
 
@@ -18,3 +22,17 @@ module _ {O V : Type 0} (post : O → V → V → V → Type 0) where
 pub last_good : {O V : Type 0} (good : O → Type 0) (xs : List (PendingOperand O V)) (x : PendingOperand O V) → all_good good (xs ++ x ∷ []) → all_good good xs × good x.operator
 last_good good [] x d = (tt, d.0)
 last_good good (y ∷ xs) x d = let h = last_good good xs x d.1 in ((d.0, h.0), h.1)
+
+-- turns of which one is asked for end behind one
+module _ {A V : Type 0} (sound : Bool → V → Type 0) (v : V) where
+  by_end : (g : TurnIndex) → EndsAt {A = A} (OwnFirst 1 None) no_value_ends g → sound (nat_lt 0 g.number) v → sound true v
+  by_end g (Full f) s = absurd (cc)
+  by_end g (Enough e) s = by_number g.number e s
+    where
+      by_number : (n : ℕ) → not (nat_lt 0 (1 - n)) ≡ true → sound (nat_lt 0 n) v → sound true v
+      by_number zero e s = absurd (cc)
+      by_number (suc n) e s = s
+  by_end g (ByValue a e) s = absurd (cc)
+
+  pub at_least_one : EndsSound {A = A} (OwnFirst 1 None) no_value_ends sound v → sound true v
+  at_least_one e = by_end e.place e.ends e.is

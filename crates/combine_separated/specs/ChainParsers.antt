@@ -12,29 +12,24 @@ use Rattle.combine_choice.specs.Choice.Or.{or_parser}
 use Rattle.combine_token.specs.Token.TokenParsers.{token_parser}
 use Rattle.combine_choice.specs.declared.or.types.Or.{Or}
 use Rattle.combine_token.specs.declared.token.types.Token.{Token}
-use Rattle.combine_separated.specs.declared.chains.types.Chainl1.{Chainl1}
-use Rattle.combine_separated.specs.declared.chains.types.RightFold.{RightFold}
+use Rattle.combine_separated.specs.declared.chains.types.Chain.{Chain}
+use Rattle.combine_separated.specs.declared.operands.FromLeft.{FromLeft}
+use Rattle.combine_separated.specs.declared.operands.FromRight.{FromRight}
 
-abbrev pub chainl1_of : {P S : Type 0} → P → S → Chainl1 P S
-chainl1_of parser operator = record { 0 = record { parser = parser; separator = operator; asks = record {} } }
+abbrev pub chain_of : {D P S : Type 0} → D → P → S → Chain D P S
+chain_of direction parser operator = record { direction = direction; turn = record { parser = parser; separator = operator; asks = record {} } }
 
-abbrev pub chained_part : {P S : Type 0} → Chainl1 P S → P
-chained_part p = p.0.parser
+abbrev pub chained_part : {D P S : Type 0} → Chain D P S → P
+chained_part p = p.turn.parser
 
-abbrev pub chained_operator : {P S : Type 0} → Chainl1 P S → S
-chained_operator p = p.0.separator
+abbrev pub chained_operator : {D P S : Type 0} → Chain D P S → S
+chained_operator p = p.turn.separator
 
-abbrev pub right_fold_of : {P S : Type 0} → Global → P → S → RightFold P S
-right_fold_of alloc parser operator = record { alloc = alloc; turn = record { parser = parser; separator = operator; asks = record {} } }
+abbrev pub chainl1_of : {P S : Type 0} → P → S → Chain FromLeft P S
+chainl1_of parser operator = chain_of (record {}) parser operator
 
-abbrev pub chainr1_of : {P S : Type 0} → Global → P → S → NoPartial (RightFold P S)
-chainr1_of alloc parser operator = no_partial_of (right_fold_of alloc parser operator)
-
-abbrev pub right_part : {P S : Type 0} → RightFold P S → P
-right_part p = p.turn.parser
-
-abbrev pub right_operator : {P S : Type 0} → RightFold P S → S
-right_operator p = p.turn.separator
+abbrev pub chainr1_of : {P S : Type 0} → Global → P → S → NoPartial (Chain FromRight P S)
+chainr1_of alloc parser operator = no_partial_of (chain_of (record { 0 = alloc }) parser operator)
 
 -- turns of a parser, or of a token and another parser
 abbrev pub escaped_of : {I P T Q : Type 0} → P → T → Q → Repeat Dropped (Or (Picked P Nothing (Unit {0})) (Picked (Token I T × Q) Nothing (Unit {0}))) ZeroOrMore

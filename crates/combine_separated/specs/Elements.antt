@@ -1,10 +1,10 @@
 -- how elements are gathered, what elements and separators mean, and the laws of that; a first element, and then turns under the rule of `many`
-use Rattle.std.specs.Prelude.{ℕ, ◌≡◌, Option, Some, None, false, ◌↔◌}
+use Rattle.std.specs.Prelude.{ℕ, ◌≡◌, Option, None, false, ◌↔◌}
 use Rattle.combine_base.specs.Error.Errors.{Observers}
 use Rattle.combine_base.specs.Parser.Meaning.{Meaning, IsMeaning, MeansOne, MeansSame}
 use Rattle.combine_separated.specs.Pair.{pair, led_is_meaning, led_means_one, led_valid, pair_is_meaning, pair_means_one, pair_means_same}
 use Rattle.combine_repeat.specs.Turns.Blocks.{Collecting}
-use Rattle.combine_repeat.specs.Turns.Bounds.{gathered, none_yet, turns_from, fresh_turns, running_turn, turns_is_meaning, turns_means_one, turns_means_same}
+use Rattle.combine_repeat.specs.Turns.Bounds.{none_yet, turns_from, fresh_turns, running_turn, turns_is_meaning, turns_means_one, turns_means_same}
 use Rattle.combine_repeat.specs.Repeat.Repeated.{no_value_ends}
 use Rattle.combine_separated.specs.Separated.{first_element, first_then, later_turn, then_element, separated_fresh, separated_valid, then_is_turn, then_once, then_same}
 use Rattle.combine_repeat.specs.declared.bounds.Bounds.{Bounds}
@@ -23,19 +23,9 @@ abbrev pub each_element : {O A Held : Type 0} → (Held → A → Held → Type 
 each_element more h (First a) i = more h a i
 each_element more h (Then s a) i = more h a i
 
--- one more element, joined by an operator that may answer any value that its relation allows
-abbrev pub folds : {O V : Type 0} → (O → V → V → V → Type 0) → Option V → Element O V → Option V → Type 0
-folds post h (First v) i = i ≡ Some v
-folds post None (Then f v) i = i ≡ Some v
-folds {V = V} post (Some a) (Then f v) i = (b : V) × post f a v b × (i ≡ Some b)
-
 -- elements collected as their values are
 abbrev pub elements : {O A V : Type 0} → Collecting A V → Collecting (Element O A) V
 elements c = record { Held = c.Held; held = c.held; none = c.none; more = each_element c.more; heapless = c.heapless }
-
--- elements folded from the left
-abbrev pub folded : {O V : Type 0} → (O → V → V → V → Type 0) → Collecting (Element O V) V
-folded post = gathered (λ v. Some v) None (folds post) (Unit {0})
 
 module _ {P T R E O A V U W : Type 0} (step : P → T → P) (errors : Observers T R P E) (b : Bounds) (c : Collecting (Element O A) V) where
   -- an element, and then turns of a separator and an element, so many
@@ -52,11 +42,6 @@ module _ {P T R E O A V U W : Type 0} (step : P → T → P) (errors : Observers
 
   abbrev pub sep_by1 : Meaning P T R E A U → Meaning P T R E O W → Meaning P T R E V (TurnsState V (SeparatedState O W U))
   sep_by1 = sep_count_min_max 1 None
-
-module _ {P T R E O V U W : Type 0} (step : P → T → P) (errors : Observers T R P E) (post : O → V → V → V → Type 0) where
-  -- an element, and then turns of an operator and an element, folded from the left
-  abbrev pub chainl1 : Meaning P T R E V U → Meaning P T R E O W → Meaning P T R E V (TurnsState V (SeparatedState O W U))
-  chainl1 = elements_meaning step errors (OwnFirst 1 None) (folded post)
 
 module _ {P T R E O A V U W : Type 0} (step : P → T → P) (errors : Observers T R P E) (b : Bounds) (c : Collecting (Element O A) V) where
   pub joined_is_meaning : (good : O → Type 0) (fresh valid : U → Type 0) (fresh' valid' : W → Type 0) (m : Meaning P T R E A U) (s : Meaning P T R E O W) → IsMeaning fresh valid m → IsMeaning fresh' valid' s → IsMeaning (fresh_turns (separated_fresh fresh)) (λ z. separated_valid valid (led_valid good valid' valid) (running_turn z)) (elements_meaning step errors b c m s)

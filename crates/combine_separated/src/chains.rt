@@ -7,14 +7,13 @@ ghost use Rattle.combine_separated.specs.ChainParsers.{chainl1_of, chainr1_of, e
 pub mod laws;
 pub mod types;
 
-use crate::separated::Separated;
+use crate::operands::{FromLeft, FromRight};
 use combine_choice::or::or;
 use combine_combinator::combinator::{ignore, no_partial};
 use combine_repeat::many::skip_many;
 use combine_token::token::token;
 use std::alloc::Global;
-use std::marker::PhantomData;
-use types::{Chainl1, Chainr1, Escaped, RightFold};
+use types::{Chain, Chainl1, Chainr1, Escaped};
 
 /// Parses as `parser`, and then by turns as `operator` and `parser`: folds the values from the left, by the functions that `operator` gives.
 ///
@@ -49,11 +48,7 @@ use types::{Chainl1, Chainr1, Escaped, RightFold};
 pub fn chainl1<P, S>(parser: P, operator: S) -> Chainl1<P, S>
     ensures { result ≡ chainl1_of parser operator }
 {
-    Chainl1(Separated {
-        parser,
-        separator: operator,
-        asks: PhantomData,
-    })
+    Chain::new(FromLeft, parser, operator)
 }
 
 /// Parses as `parser`, and then by turns as `operator` and `parser`: folds the values from the right, by the functions that `operator` gives.
@@ -91,14 +86,7 @@ pub fn chainl1<P, S>(parser: P, operator: S) -> Chainl1<P, S>
 pub fn chainr1<P, S>(alloc: Global, parser: P, operator: S) -> Chainr1<P, S>
     ensures { result ≡ chainr1_of alloc parser operator }
 {
-    no_partial(RightFold {
-        alloc,
-        turn: Separated {
-            parser,
-            separator: operator,
-            asks: PhantomData,
-        },
-    })
+    no_partial(Chain::new(FromRight(alloc), parser, operator))
 }
 
 /// Runs turns of `parser`, or, where it is refused peeked, of the token `escape` and then `escaped`, and drops the values.

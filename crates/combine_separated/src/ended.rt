@@ -44,6 +44,8 @@ impl<A, F: Append<A>> Gather<Option<A>> for EachSome<F> {
 
     ghost more = { some_more (λ h a i. i ≡ F.more h a) };
 
+    ghost sound = { λ _ _. Unit {0} };
+
     ghost heapless = { F.heapless };
 
     #[inline(always)]

@@ -63,13 +63,9 @@ impl<Input, F: Drop, P, S, B> Outputs<Input> for SepEndRepeat<F, P, S, B> {
     type Output = F;
 }
 
-impl<
-    Input: Stream,
-    P: Parser<Input>,
-    S: Parser<Input>,
-    F: Append<P::Output>,
-    B: TurnBounds,
-> Parser<Input> for SepEndRepeat<F, P, S, B> {
+impl<Input: Stream, P: Parser<Input>, S: Parser<Input>, F: Append<P::Output>, B: TurnBounds> Parser<
+    Input,
+> for SepEndRepeat<F, P, S, B> {
     type PartialState = TurnsState<F, SeparatedState<S::Output, S::PartialState, P::PartialState>>;
 
     ghost lawful = { λ p. S.lawful (ended_by_separator p) × P.lawful (ended_by_part p) };

@@ -20,8 +20,6 @@ use Rattle.combine_base.specs.Stream.View.{View, advanced}
 use Rattle.combine_base.specs.Stream.Advance.{took_before_over}
 use Rattle.combine_base.specs.declared.stream.Kind.TheVariants as kinds
 use Rattle.combine_repeat.specs.Turns.Turn.{Start, started, from_start, from_state, IsTurn, TurnStartsSame, TurnsSame, EndsTurnsOnce, TurnsOnce}
-use Rattle.combine_repeat.specs.declared.turns.FirstStep.{FirstStep}
-use Rattle.combine_repeat.specs.declared.turns.FirstStep.TheVariants as first
 use Rattle.combine_repeat.specs.declared.turns.TurnStep.{TurnStep}
 use Rattle.combine_repeat.specs.declared.turns.TurnStep.TheVariants as steps
 use Rattle.combine_repeat.specs.declared.turns.TurnStop.{TurnStop}
@@ -216,17 +214,6 @@ module _ {P T R A E : Type 0} (step : P → T → P) (errors : Observers T R P E
 module _ {P T R A V S E : Type 0} (step : P → T → P) (errors : Observers T R P E) (b : Bounds) (ending : A → Bool) (m : Meaning P T R E A S) where
   pub record JudgesRefusal (turns : TurnProgress V) (position : P) (own : E) (left new : View P T) (result : TurnStop V E) : Type 0 where
     pub is : (first : Bool) (s : S) (v : View P T) → v.position ≡ position → MeantRefusal (begun m first s) (begun_refuses m first s) v left false own → StopRefuses step errors b ending (started m first s) v new turns result
-
--- which errors the first turn may have, where it makes what is gathered
-module _ {P T R A V E : Type 0} (errors : Observers T R P E) (s : Start P T E A) (v w : View P T) where
-  abbrev pub first_refuses : FirstStep V E → Type 0
-  first_refuses (first.Goes n) = Unit {0}
-  first_refuses (first.Refused t) = MeantRefusal s.reads s.refuses v w false t.error
-  first_refuses (first.More e) = IsRefusal w.is_open (errors.kind e) → ⊥
-  first_refuses (first.Failed e) = IsRefusal w.is_open (errors.kind e) → MeantRefusal s.reads s.refuses v w true e
-
-  pub record FirstRefuses (result : FirstStep V E) : Type 0 where
-    pub is : first_refuses result
 
 module _ {P T R E A V S : Type 0} (step : P → T → P) (errors : Observers T R P E) (b : Bounds) (ending : A → Bool) (c : Collecting A V) where
   -- turns that begin so

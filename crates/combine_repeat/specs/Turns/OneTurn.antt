@@ -55,6 +55,7 @@ module _ {P T R A V S E : Type 0} (w : World P T S E) (b : Bounds) (ending : A �
     pub needs : (w.kind e ≡ kinds.End) × (r.new.is_open ≡ true)
     pub answers : Answers w m r (CommitErr e)
     pub index : TurnIndex
+    pub number : index.number ≡ old.index.number
     pub cut : (n : ℕ) → Takes w.step n r.old r.new → index ≡ cut_at old.index n
     pub turns : new ≡ record { into = old.into; committed = old.committed; index = index }
 

@@ -10,12 +10,10 @@ use Rattle.combine_base.specs.declared.error.ParseResult.TheVariants.{PeekErr}
 use Rattle.combine_base.specs.declared.error.Tracked.{Tracked}
 use Rattle.combine_base.specs.declared.stream.StreamOnce as stream
 use Rattle.combine_repeat.specs.Turns.Bounds.{fresh_turns, turns_from}
-use Rattle.combine_repeat.specs.Turns.FirstTurn.{FirstTurn}
 use Rattle.combine_repeat.specs.Turns.OneTurn.{TurnDid, CallEndedAt, turns_halted, then_left}
 use Rattle.combine_repeat.specs.Turns.Turn.{Start}
 use Rattle.combine_repeat.specs.Turns.Blocks.{Collecting, TurnsSoFar}
 use Rattle.combine_repeat.specs.declared.bounds.Bounds.{Bounds}
-use Rattle.combine_repeat.specs.declared.turns.FirstStep.{FirstStep}
 use Rattle.combine_repeat.specs.declared.bounds.TurnIndex.{TurnIndex}
 use Rattle.combine_repeat.specs.declared.turns.TurnStep.{TurnStep}
 use Rattle.combine_repeat.specs.declared.turns.TurnStop.{TurnStop}
@@ -30,10 +28,6 @@ module _ {Input P T R A V S E : Type 0} (i : stream.Ghosts Input T R P E) (obser
   -- one turn
   abbrev pub OneTurnCall : Bounds → (A → Bool) → Collecting A V → Meaning P T R E A S → Bool → (from left : S) → (input after : Input) → TurnProgress V → TurnStep V E → Type 0
   OneTurnCall b ending c m first from left input after turns result = TurnDid (world i.step observers i.counts_failures fresh) b ending c m (call_between i first from left input after) turns result
-
-  -- the first one, which makes what is gathered
-  abbrev pub FirstTurnCall : (c : Collecting A V) → c.Held → Meaning P T R E A S → Bool → (from left : S) → (input after : Input) → FirstStep V E → Type 0
-  FirstTurnCall c none m first from left input after result = FirstTurn (world i.step observers i.counts_failures fresh) c none m (call_between i first from left input after) result
 
   -- all of them
   abbrev pub TurnsCall : Bounds → (A → Bool) → (c : Collecting A V) → TurnsSoFar TurnIndex c.Held → Meaning P T R E A S → Start P T E A → Bool → (from left : TurnsState V S) → (input after : Input) → ParseResult V E → Type 0

@@ -1,15 +1,25 @@
 //! What the repetitions mean. The functions do nothing: their contracts are the laws.
 ghost use Rattle.combine_base.specs.Parser.Meaning.{MeansSame};
-ghost use Rattle.combine_separated.specs.ChainParsers.{chainr1_of, escaped_of};
-ghost use Rattle.combine_separated.specs.Chains.{OperandsAreOneThenTurns, chainr1};
+ghost use Rattle.combine_separated.specs.ChainParsers.{chainl1_of, chainr1_of, escaped_of};
+ghost use Rattle.combine_separated.specs.Chains.{OperandsAreOneThenTurns, chainl1, chainr1};
 ghost use Rattle.combine_separated.specs.Escapes.{escaped_blocks};
 ghost use Rattle.combine_choice.specs.Choice.Choices.{ReadingsAgree};
 
-use crate::chains::types::{Chainr1, Escaped};
+use crate::chains::types::{Chainl1, Chainr1, Escaped};
 use crate::separated::Folds;
 use combine_base::parser::Parser;
 use combine_base::stream::Stream;
 use std::alloc::Global;
+
+/// The law that `chainl1` means operands that are folded from the left.
+pub fn chainl1_is_left_fold<Input: Stream, P: Parser<Input>, S: Parser<Input>>(
+    parser: &P,
+    operator: &S,
+)
+where
+    S::Output: Folds<P::Output>,
+    ensures { MeansSame (⟦<Chainl1<P, S> as Parser<Input>>⟧.meaning (chainl1_of parser.now operator.now)) (chainl1 Input.step Input.Error.observers (λ f x y r. S.Output.answers f x y r) (P.meaning parser.now) (S.meaning operator.now)) }
+{}
 
 /// The law that `chainr1` means operands that are folded from the right, each call from the start; and that these are an operand and then turns of an operator and an operand under the rule of `many`.
 ///

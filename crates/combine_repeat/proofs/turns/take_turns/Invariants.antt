@@ -2,6 +2,7 @@ use Rattle.combine_repeat.specs.declared.turns.Earlier.TheVariants.{Nothing}
 use Rattle.std.proofs.Common.{◌≡◌, ◌+◌, length, true}
 use Rattle.combine_base.specs.Parser.Answer.{world}
 use Rattle.combine_base.specs.Stream.Calls.{Passes}
+use Rattle.combine_repeat.specs.Turns.SoundValues.{sound_at}
 use Rattle.combine_repeat.specs.Turns.Turn.{TurnsSame, called, started}
 use Rattle.combine_repeat.specs.Turns.Bounds.{bounded, gathered, fresh_turns, so_far, turns_from, bounded_is_rule}
 use Rattle.combine_repeat.proofs.TurnCalls.{ReachesTurn}
@@ -17,6 +18,7 @@ invariant-turns g l = record {
   same : TurnsSame (g.P.TurnParser.meaning l.fn.parser) (g.P.TurnParser.again l.fn.parser) (g.P.TurnParser.meaning l.parser) (g.P.TurnParser.again l.parser);
   passes : Passes (g.Input.StreamOnce.marks l.fn.input) (g.Input.StreamOnce.marks l.input) (g.Input.StreamOnce.failures l.fn.input) (g.Input.StreamOnce.failures l.input);
   cleared : l.state.earlier ≡ Nothing;
+  sound : sound_at (λ k i. g.G.Gather.sound k (g.G.Gather.held i)) l.turns;
   reaches : ReachesTurn
       (world g.Input.StreamOnce.step g.Input.Error.ParseError.observers g.Input.StreamOnce.counts_failures g.P.Running.Default.is_default)
       (fresh_turns g.P.Running.Default.is_default)

@@ -10,3 +10,6 @@ returns-clause-answers g c = rw (c.none_yet.ensures, c.in-Ok.ensures) at c.take_
 
 pub returns-clause-refuses : goal.returns-clause-refuses
 returns-clause-refuses g c = rw (c.none_yet.ensures, c.in-Ok.ensures) at c.take_turns.ensures.refuses
+
+pub take_turns-requires-clause-sound : goal.take_turns-requires-clause-sound
+take_turns-requires-clause-sound g c = (λ t e. g.met.G.Collect.holds_any _ _, g.met.G.Collect.holds_any _ _)
