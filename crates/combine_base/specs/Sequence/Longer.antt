@@ -20,10 +20,10 @@ use Rattle.combine_base.specs.declared.sequence.states.PartialState8.TheVariants
 
 -- five parts: which runs, which states begin them and which are valid
 abbrev pub place_5 : {A B C D E : Type 0} → PartialState5 A B C D E → SequencePlace (PartialState4 A B C D) E
-place_5 (one.A at) = Before (four.A at)
-place_5 (two.B at) = Before (four.B at)
-place_5 (three.C at) = Before (four.C at)
-place_5 (four.D at) = Before (four.D at)
+place_5 (five.A at) = Before (four.A at)
+place_5 (five.B at) = Before (four.B at)
+place_5 (five.C at) = Before (four.C at)
+place_5 (five.D at) = Before (four.D at)
 place_5 (five.E at) = Last at
 
 abbrev pub begins_5 : {A B C D E : Type 0} → (A → Type 0) → PartialState5 A B C D E → Type 0
@@ -57,11 +57,11 @@ tuple_5_means_same step errors h0 h1 h2 h3 h4 = followed_means_same step errors 
 
 -- six parts: which runs, which states begin them and which are valid
 abbrev pub place_6 : {A B C D E F : Type 0} → PartialState6 A B C D E F → SequencePlace (PartialState5 A B C D E) F
-place_6 (one.A at) = Before (five.A at)
-place_6 (two.B at) = Before (five.B at)
-place_6 (three.C at) = Before (five.C at)
-place_6 (four.D at) = Before (five.D at)
-place_6 (five.E at) = Before (five.E at)
+place_6 (six.A at) = Before (five.A at)
+place_6 (six.B at) = Before (five.B at)
+place_6 (six.C at) = Before (five.C at)
+place_6 (six.D at) = Before (five.D at)
+place_6 (six.E at) = Before (five.E at)
 place_6 (six.F at) = Last at
 
 abbrev pub begins_6 : {A B C D E F : Type 0} → (A → Type 0) → PartialState6 A B C D E F → Type 0
@@ -95,12 +95,12 @@ tuple_6_means_same step errors h0 h1 h2 h3 h4 h5 = followed_means_same step erro
 
 -- seven parts: which runs, which states begin them and which are valid
 abbrev pub place_7 : {A B C D E F G : Type 0} → PartialState7 A B C D E F G → SequencePlace (PartialState6 A B C D E F) G
-place_7 (one.A at) = Before (six.A at)
-place_7 (two.B at) = Before (six.B at)
-place_7 (three.C at) = Before (six.C at)
-place_7 (four.D at) = Before (six.D at)
-place_7 (five.E at) = Before (six.E at)
-place_7 (six.F at) = Before (six.F at)
+place_7 (seven.A at) = Before (six.A at)
+place_7 (seven.B at) = Before (six.B at)
+place_7 (seven.C at) = Before (six.C at)
+place_7 (seven.D at) = Before (six.D at)
+place_7 (seven.E at) = Before (six.E at)
+place_7 (seven.F at) = Before (six.F at)
 place_7 (seven.G at) = Last at
 
 abbrev pub begins_7 : {A B C D E F G : Type 0} → (A → Type 0) → PartialState7 A B C D E F G → Type 0
@@ -134,13 +134,13 @@ tuple_7_means_same step errors h0 h1 h2 h3 h4 h5 h6 = followed_means_same step e
 
 -- eight parts: which runs, which states begin them and which are valid
 abbrev pub place_8 : {A B C D E F G H : Type 0} → PartialState8 A B C D E F G H → SequencePlace (PartialState7 A B C D E F G) H
-place_8 (one.A at) = Before (seven.A at)
-place_8 (two.B at) = Before (seven.B at)
-place_8 (three.C at) = Before (seven.C at)
-place_8 (four.D at) = Before (seven.D at)
-place_8 (five.E at) = Before (seven.E at)
-place_8 (six.F at) = Before (seven.F at)
-place_8 (seven.G at) = Before (seven.G at)
+place_8 (eight.A at) = Before (seven.A at)
+place_8 (eight.B at) = Before (seven.B at)
+place_8 (eight.C at) = Before (seven.C at)
+place_8 (eight.D at) = Before (seven.D at)
+place_8 (eight.E at) = Before (seven.E at)
+place_8 (eight.F at) = Before (seven.F at)
+place_8 (eight.G at) = Before (seven.G at)
 place_8 (eight.H at) = Last at
 
 abbrev pub begins_8 : {A B C D E F G H : Type 0} → (A → Type 0) → PartialState8 A B C D E F G H → Type 0

@@ -1,4 +1,5 @@
 //! Choices over the parsers of a tuple of 2 to 8. Written by trials/widths: not to be edited by hand.
+
 use super::single::{Or3, Or4, Or5, Or6, Or7, Or8};
 use super::{ChoiceOutputs, ChoiceParser};
 use crate::or::alternatives::{Alternatives, FirstHalf};
