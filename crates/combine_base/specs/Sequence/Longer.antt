@@ -1,4 +1,3 @@
--- written by trials/widths: not to be edited by hand
 -- tuples of five to eight parsers: each is the one shorter by a part, followed by that part
 use Rattle.combine_base.specs.Error.Errors.{Observers}
 use Rattle.combine_base.specs.Parser.Meaning.{Meaning, IsMeaning, MeansOne, MeansSame}
