@@ -7,6 +7,7 @@ use combine_base::parser::{FirstMode, ParseMode, Parser, PartialMode};
 use combine_base::stream::Stream;
 
 pub mod laws;
+mod single;
 pub mod slice;
 mod tuples;
 pub mod types;

@@ -14,8 +14,8 @@ use Rattle.combine_choice.specs.Choice.Or.{either_of}
 use Rattle.combine_token.specs.Token.OneToken.{of_function, satisfied, takes_one}
 use Rattle.combine_base.specs.declared.error.UnexpectedParse.{UnexpectedParse}
 use Rattle.combine_base.specs.declared.sequence.SequenceState.{SequenceState}
-use Rattle.combine_base.specs.declared.sequence.PartialState3.{PartialState3}
-use Rattle.combine_base.specs.declared.sequence.PartialState4.{PartialState4}
+use Rattle.combine_base.specs.declared.sequence.states.PartialState3.{PartialState3}
+use Rattle.combine_base.specs.declared.sequence.states.PartialState4.{PartialState4}
 use Rattle.combine_choice.specs.declared.or.OrState.{OrState}
 use Rattle.combine_combinator.specs.Attempt.{attempted}
 use Rattle.combine_combinator.specs.declared.combinator.TryState.{TryState}

@@ -1,3 +1,4 @@
+-- written by trials/widths: not to be edited by hand
 use Rattle.combine_choices.proofs.choice.tuples.Tuple2ChoiceParser.parse_mode_choice.Goals as goal
 
 pub returns-clause-lawful : goal.returns-clause-lawful

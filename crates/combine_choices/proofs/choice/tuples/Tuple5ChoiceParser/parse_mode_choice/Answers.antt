@@ -1,3 +1,4 @@
+-- written by trials/widths: not to be edited by hand
 use Rattle.std.proofs.Common.{rules}
 use Rattle.combine_base.specs.Parser.Meaning.{MeansSame}
 use Rattle.combine_choice.specs.Choice.Alternatives.{both_merged}

@@ -1,3 +1,4 @@
+-- written by trials/widths: not to be edited by hand
 use Rattle.combine_choice.specs.Choice.Alternatives.{both_merged}
 use Rattle.combine_choice.specs.Choice.Or.{or_means_same}
 use Rattle.combine_token.proofs.Tokens.TwoAdditions.{says_together}

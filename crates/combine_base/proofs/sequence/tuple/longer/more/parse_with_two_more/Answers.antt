@@ -2,7 +2,7 @@ use Rattle.std.proofs.Common.{sym, ◌∙◌}
 use Rattle.combine_base.specs.Sequence.Places.{begins_valid}
 use Rattle.combine_base.specs.Sequence.Tuples.{followed, followed_is_meaning}
 use Rattle.combine_base.proofs.Sequences.SequenceCalls.{last_called, sequence_called}
-use Rattle.combine_base.proofs.sequence.tuple.longer.parse_with_two_more.Goals as goal
+use Rattle.combine_base.proofs.sequence.tuple.longer.more.parse_with_two_more.Goals as goal
 
 pub returns-in-Before-clause-follows : goal.returns-in-Before-clause-follows
 returns-in-Before-clause-follows g c =

@@ -1,6 +1,6 @@
 use Rattle.std.proofs.Common.{sym, ◌∙◌}
 use Rattle.combine_base.proofs.Sequences.SequenceCalls.{last_called, sequence_called}
-use Rattle.combine_base.proofs.sequence.tuple.longer.parse_with_one_more.Goals as goal
+use Rattle.combine_base.proofs.sequence.tuple.longer.more.parse_with_one_more.Goals as goal
 
 pub returns-in-Before-clause-follows : goal.returns-in-Before-clause-follows
 returns-in-Before-clause-follows g c =
