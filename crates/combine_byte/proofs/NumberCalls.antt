@@ -15,8 +15,8 @@ use Rattle.combine_base.proofs.Errors.CallReasons.{reasons_fault, reasons_ok, re
 use Rattle.combine_base.specs.declared.stream.Kind.{Kind}
 use Rattle.combine_base.specs.declared.stream.Kind.TheVariants as kinds
 use Rattle.combine_base.specs.declared.stream.Failures.{Failures}
-use Rattle.combine_base.specs.declared.error.ParseResult.{ParseResult}
-use Rattle.combine_base.specs.declared.error.ParseResult.TheVariants.{CommitOk, PeekOk, CommitErr, PeekErr}
+use Rattle.combine_base.specs.declared.error.result.ParseResult.{ParseResult}
+use Rattle.combine_base.specs.declared.error.result.ParseResult.TheVariants.{CommitOk, PeekOk, CommitErr, PeekErr}
 use Rattle.combine_token.proofs.Tokens.Stateless.{stateless_asks, into_begun}
 use Rattle.combine_byte.specs.WholeNumbers.{EndsThere, RefusesShort, EndsTooEarly, NumberUnreset, takes_number, whole_number}
 

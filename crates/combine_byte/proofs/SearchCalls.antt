@@ -13,8 +13,8 @@ use Rattle.combine_base.proofs.Parsers.Progress.{takes_more, takes_open, moves_m
 use Rattle.combine_base.specs.declared.stream.Kind.{Kind}
 use Rattle.combine_base.specs.declared.stream.Kind.TheVariants as kinds
 use Rattle.combine_base.specs.declared.stream.Failures.{Failures}
-use Rattle.combine_base.specs.declared.error.ParseResult.{ParseResult}
-use Rattle.combine_base.specs.declared.error.ParseResult.TheVariants.{CommitOk, PeekOk, CommitErr, PeekErr}
+use Rattle.combine_base.specs.declared.error.result.ParseResult.{ParseResult}
+use Rattle.combine_base.specs.declared.error.result.ParseResult.TheVariants.{CommitOk, PeekOk, CommitErr, PeekErr}
 use Rattle.combine_stream.specs.Range.Ranges.{size_of, IsItemPlace, EndsInsideToken, UnconsRange, no_range, size_take, size_rises, place_at_zero}
 use Rattle.combine_range.specs.declared.distance.Distance.{Distance}
 use Rattle.combine_range.specs.KeptDistance.{kept, HandsOutRange, KeepsItemDistance, items_of}

@@ -7,8 +7,8 @@ use Rattle.combine_base.specs.Parser.Reasons.{Reasoned}
 use Rattle.combine_base.specs.Refusals.{HasItems}
 use Rattle.combine_base.proofs.Errors.CallReasons.{reasons_committed, reasons_fault, reasons_peeked}
 use Rattle.combine_base.specs.declared.stream.Kind.TheVariants as kinds
-use Rattle.combine_base.specs.declared.error.ParseResult.{ParseResult}
-use Rattle.combine_base.specs.declared.error.ParseResult.TheVariants.{CommitOk, PeekOk, CommitErr, PeekErr}
+use Rattle.combine_base.specs.declared.error.result.ParseResult.{ParseResult}
+use Rattle.combine_base.specs.declared.error.result.ParseResult.TheVariants.{CommitOk, PeekOk, CommitErr, PeekErr}
 use Rattle.combine_byte.specs.Search.SearchReasons.{SaysAbsent}
 use Rattle.combine_byte.specs.Search.ItemLimit.{RefusesAbsent}
 

@@ -11,8 +11,8 @@ use Rattle.combine_base.specs.Parser.Meaning.{Meaning, Reading, IsReading, IsMea
 use Rattle.combine_base.specs.Refusals.{NoToken, SaysEnd, HasItems}
 use Rattle.combine_base.specs.declared.stream.Kind.TheVariants as kinds
 use Rattle.combine_base.specs.declared.stream.Failures.{Failures}
-use Rattle.combine_base.specs.declared.error.ParseResult.{ParseResult}
-use Rattle.combine_base.specs.declared.error.ParseResult.TheVariants.{CommitErr}
+use Rattle.combine_base.specs.declared.error.result.ParseResult.{ParseResult}
+use Rattle.combine_base.specs.declared.error.result.ParseResult.TheVariants.{CommitErr}
 use Rattle.combine_token.specs.Token.Stateless.{stateless, stateless_is_meaning, stateless_means_one}
 use Rattle.combine_byte.specs.declared.whole.WholeNumber.{WholeNumber}
 

@@ -7,8 +7,8 @@ use Rattle.combine_base.specs.Error.Errors.{Observers}
 use Rattle.combine_base.specs.Parser.Meaning.{Meaning, IsMeaning, begun, begun_refuses}
 use Rattle.combine_base.specs.Parser.Answer.{CallRecord, World, Answers, world}
 use Rattle.combine_base.specs.declared.stream.Failures.{Failures}
-use Rattle.combine_base.specs.declared.error.ParseResult.{ParseResult}
-use Rattle.combine_base.specs.declared.error.ParseResult.TheVariants.{CommitOk, PeekOk, CommitErr, PeekErr}
+use Rattle.combine_base.specs.declared.error.result.ParseResult.{ParseResult}
+use Rattle.combine_base.specs.declared.error.result.ParseResult.TheVariants.{CommitOk, PeekOk, CommitErr, PeekErr}
 use Rattle.combine_base.proofs.Parsers.CallStarts.{need_or_not}
 use Rattle.combine_base.proofs.Errors.MeantRefusals.{reasoned_into}
 use Rattle.combine_base.specs.Parser.Reasons.{ReasonedCall}

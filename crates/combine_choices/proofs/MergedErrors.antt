@@ -9,9 +9,9 @@ use Rattle.combine_base.specs.Refusals.{HasItems}
 use Rattle.combine_base.proofs.Errors.CallReasons.{reasons_fault, reasons_hand_on, reasons_ok, reasons_peek_ok, reasons_peeked}
 use Rattle.combine_base.proofs.Errors.Explanations.{reason_peeked}
 use Rattle.combine_base.specs.declared.stream.Kind.TheVariants as kinds
-use Rattle.combine_base.specs.declared.error.Tracked.{Tracked}
-use Rattle.combine_base.specs.declared.error.ParseResult.{ParseResult}
-use Rattle.combine_base.specs.declared.error.ParseResult.TheVariants.{CommitOk, PeekOk, CommitErr, PeekErr}
+use Rattle.combine_base.specs.declared.error.tracked.Tracked.{Tracked}
+use Rattle.combine_base.specs.declared.error.result.ParseResult.{ParseResult}
+use Rattle.combine_base.specs.declared.error.result.ParseResult.TheVariants.{CommitOk, PeekOk, CommitErr, PeekErr}
 use Rattle.combine_choice.specs.Choice.Alternatives.{AfterRefusal, both_merged, refuses_both}
 use Rattle.combine_choices.specs.ListChoice.{choice_of}
 use Rattle.combine_choices.specs.MergedErrors.{choice_is_empty, merges, one_commits, on_refuses, tried_refuses}

@@ -16,9 +16,9 @@ use Rattle.combine_base.proofs.Parsers.CallStarts.{need_or_not}
 use Rattle.combine_base.specs.declared.stream.Kind.{Kind}
 use Rattle.combine_base.specs.declared.stream.Kind.TheVariants as kinds
 use Rattle.combine_base.specs.declared.stream.Failures.{Failures}
-use Rattle.combine_base.specs.declared.error.Tracked.{Tracked}
-use Rattle.combine_base.specs.declared.error.ParseResult.{ParseResult}
-use Rattle.combine_base.specs.declared.error.ParseResult.TheVariants.{CommitOk, PeekOk, CommitErr, PeekErr}
+use Rattle.combine_base.specs.declared.error.tracked.Tracked.{Tracked}
+use Rattle.combine_base.specs.declared.error.result.ParseResult.{ParseResult}
+use Rattle.combine_base.specs.declared.error.result.ParseResult.TheVariants.{CommitOk, PeekOk, CommitErr, PeekErr}
 use Rattle.combine_choice.specs.Choice.Alternatives.{AfterRefusal, PeeksNoFault, both_merged, refuses_both}
 use Rattle.combine_choice.specs.Choice.Choices.{OrElse, Later, either_into}
 use Rattle.combine_choice.proofs.Choices.ChoiceOutcomes.{Tries, tries_start, tries_asks, tries_fails, tries_commit_ok, tries_peek_ok}

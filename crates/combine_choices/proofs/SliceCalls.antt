@@ -8,8 +8,8 @@ use Rattle.combine_base.specs.Parser.Meaning.{Meaning, IsMeaning, begun}
 use Rattle.combine_base.specs.Parser.Answer.{CallRecord, World, Answers, world}
 use Rattle.combine_base.proofs.Parsers.Progress.{takes_none}
 use Rattle.combine_base.specs.declared.stream.Failures.{Failures}
-use Rattle.combine_base.specs.declared.error.ParseResult.{ParseResult}
-use Rattle.combine_base.specs.declared.error.ParseResult.TheVariants.{CommitOk, PeekOk, CommitErr, PeekErr}
+use Rattle.combine_base.specs.declared.error.result.ParseResult.{ParseResult}
+use Rattle.combine_base.specs.declared.error.result.ParseResult.TheVariants.{CommitOk, PeekOk, CommitErr, PeekErr}
 use Rattle.combine_choice.specs.Choice.Choices.{refused, last_is, either_into}
 use Rattle.combine_choice.proofs.Choices.ChoiceOutcomes.{Tries}
 use Rattle.combine_token.proofs.Tokens.TwoAdditions.{says_together}

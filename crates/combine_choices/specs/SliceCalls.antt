@@ -7,8 +7,8 @@ use Rattle.combine_base.specs.Parser.Meaning.{Meaning, begun, begun_refuses}
 use Rattle.combine_base.specs.Parser.Answer.{World, Answers, world}
 use Rattle.combine_base.specs.declared.stream.Failures.{Failures}
 use Rattle.combine_base.specs.declared.stream.Kind.TheVariants as kinds
-use Rattle.combine_base.specs.declared.error.ParseResult.{ParseResult}
-use Rattle.combine_base.specs.declared.error.ParseResult.TheVariants.{CommitOk, PeekOk, CommitErr, PeekErr}
+use Rattle.combine_base.specs.declared.error.result.ParseResult.{ParseResult}
+use Rattle.combine_base.specs.declared.error.result.ParseResult.TheVariants.{CommitOk, PeekOk, CommitErr, PeekErr}
 use Rattle.combine_choices.specs.MergedErrors.{choice_is_empty, tried_refuses}
 use Rattle.combine_choices.specs.declared.choice.slice.SliceState.{SliceState}
 use Rattle.combine_choices.specs.declared.choice.slice.SliceState.TheVariants.{Peek, At}

@@ -13,9 +13,9 @@ use Rattle.combine_base.proofs.Parsers.Progress.{after_none, takes_none, takes_m
 use Rattle.combine_base.specs.declared.stream.Kind.{Kind}
 use Rattle.combine_base.specs.declared.stream.Kind.TheVariants as kinds
 use Rattle.combine_base.specs.declared.stream.Failures.{Failures}
-use Rattle.combine_base.specs.declared.error.Tracked.{Tracked}
-use Rattle.combine_base.specs.declared.error.ParseResult.{ParseResult}
-use Rattle.combine_base.specs.declared.error.ParseResult.TheVariants.{CommitOk, PeekOk, CommitErr, PeekErr}
+use Rattle.combine_base.specs.declared.error.tracked.Tracked.{Tracked}
+use Rattle.combine_base.specs.declared.error.result.ParseResult.{ParseResult}
+use Rattle.combine_base.specs.declared.error.result.ParseResult.TheVariants.{CommitOk, PeekOk, CommitErr, PeekErr}
 use Rattle.combine_combinator.specs.Attempt.{IsFreshTry, with_peeked_refusal, refusing, Attempts, LosesTry, Short, LostWithin, attempted, KeepsTokenDistance, PutsBack, keeps_token_distance}
 use Rattle.combine_combinator.specs.declared.combinator.TryState.{TryState}
 

@@ -15,8 +15,8 @@ use Rattle.combine_base.proofs.Parsers.Progress.{Progress, after_none, takes_non
 use Rattle.combine_base.proofs.Errors.MeantRefusals.{reasoned_into, reasoned_meant}
 use Rattle.combine_base.proofs.Parsers.SameMeanings.{same_more, same_none}
 use Rattle.combine_base.proofs.Parsers.CallStarts.{in_mode, progress_here}
-use Rattle.combine_base.specs.declared.error.ParseResult.{ParseResult}
-use Rattle.combine_base.specs.declared.error.ParseResult.TheVariants.{CommitOk, PeekOk, CommitErr, PeekErr}
+use Rattle.combine_base.specs.declared.error.result.ParseResult.{ParseResult}
+use Rattle.combine_base.specs.declared.error.result.ParseResult.TheVariants.{CommitOk, PeekOk, CommitErr, PeekErr}
 use Rattle.combine_base.specs.declared.parser.Parser as parser
 use Rattle.combine_base.specs.declared.stream.StreamOnce as stream
 use Rattle.combine_base.specs.declared.stream.Failures.{Failures}

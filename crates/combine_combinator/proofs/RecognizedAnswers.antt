@@ -12,8 +12,8 @@ use Rattle.combine_base.proofs.Parsers.InnerCalls.{InsideCall, inside_fails, ins
 use Rattle.combine_base.proofs.Parsers.Progress.{progress_none, takes_open}
 use Rattle.combine_base.proofs.Errors.CallReasons.{reasons_fault, reasons_need}
 use Rattle.combine_base.proofs.Errors.MeantRefusals.{reasoned_at_rest, reasoned_error, reasoned_in_mode, reasoned_refusal}
-use Rattle.combine_base.specs.declared.error.ParseResult.TheVariants.{CommitOk, PeekOk, CommitErr, PeekErr}
-use Rattle.combine_base.specs.declared.error.Tracked.{Tracked}
+use Rattle.combine_base.specs.declared.error.result.ParseResult.TheVariants.{CommitOk, PeekOk, CommitErr, PeekErr}
+use Rattle.combine_base.specs.declared.error.tracked.Tracked.{Tracked}
 use Rattle.combine_base.specs.declared.stream.Failures.{Failures}
 use Rattle.combine_base.specs.declared.stream.Kind.{Kind}
 use Rattle.combine_base.specs.declared.stream.Kind.TheVariants as kinds

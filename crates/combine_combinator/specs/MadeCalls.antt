@@ -8,7 +8,7 @@ use Rattle.combine_base.specs.Parser.Meaning.{MeansSame}
 use Rattle.combine_base.specs.Parser.Reasons.{Reasoned}
 use Rattle.combine_base.specs.Sequence.Parts.{call_from}
 use Rattle.combine_base.specs.Stream.Calls.{Passes}
-use Rattle.combine_base.specs.declared.error.ParseResult.{ParseResult}
+use Rattle.combine_base.specs.declared.error.result.ParseResult.{ParseResult}
 use Rattle.combine_base.specs.declared.parser.Parser as parser
 use Rattle.combine_base.specs.declared.stream.StreamOnce as stream
 use Rattle.combine_combinator.specs.declared.lazy.made.Made.{Made}

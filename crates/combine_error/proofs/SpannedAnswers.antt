@@ -13,8 +13,8 @@ use Rattle.combine_base.proofs.Errors.CallErrors.{left_by, peeked_refusal, same_
 use Rattle.combine_base.proofs.Errors.Explanations.{reason_committed, reason_peeked}
 use Rattle.combine_base.proofs.Errors.CallReasons.{reasons_committed, reasons_ok, reasons_peek_ok, reasons_peeked}
 use Rattle.combine_base.proofs.Parsers.SameMeanings.{answers_alike}
-use Rattle.combine_base.specs.declared.error.ParseResult.{ParseResult}
-use Rattle.combine_base.specs.declared.error.ParseResult.TheVariants.{CommitOk, PeekOk, CommitErr, PeekErr}
+use Rattle.combine_base.specs.declared.error.result.ParseResult.{ParseResult}
+use Rattle.combine_base.specs.declared.error.result.ParseResult.TheVariants.{CommitOk, PeekOk, CommitErr, PeekErr}
 use Rattle.combine_base.specs.declared.stream.Kind.{Kind}
 use Rattle.combine_error.specs.declared.span.Span.{Span}
 use Rattle.combine_error.specs.SpannedErrors.{Spans, SpansAnswer, SpansReason, spanned, spans, spans_answer}

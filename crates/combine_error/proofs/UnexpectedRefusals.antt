@@ -5,8 +5,8 @@ use Rattle.combine_base.specs.Error.Items.{ErrorItem}
 use Rattle.combine_base.specs.Parser.Reasons.{ReasonedCall}
 use Rattle.combine_base.specs.Stream.View.{View}
 use Rattle.combine_base.proofs.Errors.CallReasons.{reasons_peeked}
-use Rattle.combine_base.specs.declared.error.ParseResult.TheVariants.{PeekErr}
-use Rattle.combine_base.specs.declared.error.Tracked.{Tracked}
+use Rattle.combine_base.specs.declared.error.result.ParseResult.TheVariants.{PeekErr}
+use Rattle.combine_base.specs.declared.error.tracked.Tracked.{Tracked}
 use Rattle.combine_base.specs.declared.stream.Kind.TheVariants as kinds
 use Rattle.combine_token.proofs.Tokens.Stateless.{stateless_reasons}
 use Rattle.combine_error.specs.Unexpected.{RefusesThere, refused_there, refuses_all}

@@ -5,8 +5,8 @@ use Rattle.std.specs.declared.cmp.Ordering.TheVariants.{Equal}
 use Rattle.combine_base.specs.Error.Errors.{Observers, MovesPosition}
 use Rattle.combine_base.specs.Parser.Meaning.{Meaning, Refusing, SameReasons, IsMeaning, MeansOne, MeansSame}
 use Rattle.combine_base.specs.Stream.View.{View, Takes}
-use Rattle.combine_base.specs.declared.error.ParseResult.{ParseResult}
-use Rattle.combine_base.specs.declared.error.ParseResult.TheVariants.{CommitOk, PeekOk, CommitErr, PeekErr}
+use Rattle.combine_base.specs.declared.error.result.ParseResult.{ParseResult}
+use Rattle.combine_base.specs.declared.error.result.ParseResult.TheVariants.{CommitOk, PeekOk, CommitErr, PeekErr}
 use Rattle.combine_error.specs.declared.span.Span.{Span}
 use Rattle.combine_error.specs.declared.spanned.types.Spanned.{Spanned}
 

@@ -13,9 +13,9 @@ use Rattle.combine_base.proofs.Errors.CallReasons.{reasons_committed, reasons_pe
 use Rattle.combine_base.specs.declared.stream.Kind.{Kind}
 use Rattle.combine_base.specs.declared.stream.Kind.TheVariants as kinds
 use Rattle.combine_base.specs.declared.stream.Failures.{Failures}
-use Rattle.combine_base.specs.declared.error.Tracked.{Tracked}
-use Rattle.combine_base.specs.declared.error.ParseResult.{ParseResult}
-use Rattle.combine_base.specs.declared.error.ParseResult.TheVariants.{CommitOk, PeekOk, CommitErr, PeekErr}
+use Rattle.combine_base.specs.declared.error.tracked.Tracked.{Tracked}
+use Rattle.combine_base.specs.declared.error.result.ParseResult.{ParseResult}
+use Rattle.combine_base.specs.declared.error.result.ParseResult.TheVariants.{CommitOk, PeekOk, CommitErr, PeekErr}
 use Rattle.combine_token.proofs.Tokens.Stateless.{stateless_asks, into_begun}
 use Rattle.combine_function.specs.Functions.{FunctionReading, KeepsLaws, NeedsNoMemory, RefusesCalled, MovesUnfailing, answer_outcome, as_function, error_outcome, keeps_error, keeps_peek}
 

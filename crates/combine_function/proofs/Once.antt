@@ -17,9 +17,9 @@ use Rattle.combine_base.proofs.Parsers.Progress.{Progress, progress_none, takes_
 use Rattle.combine_base.proofs.Parsers.SameMeanings.{passes_more, passes_none}
 use Rattle.combine_base.proofs.Sequences.SequenceResumes.{accepted_resumes}
 use Rattle.combine_base.proofs.Parsers.CallStarts.{need_or_not}
-use Rattle.combine_base.specs.declared.error.ParseResult.{ParseResult}
-use Rattle.combine_base.specs.declared.error.ParseResult.TheVariants.{CommitOk, PeekOk, CommitErr, PeekErr}
-use Rattle.combine_base.specs.declared.error.Tracked.{Tracked}
+use Rattle.combine_base.specs.declared.error.result.ParseResult.{ParseResult}
+use Rattle.combine_base.specs.declared.error.result.ParseResult.TheVariants.{CommitOk, PeekOk, CommitErr, PeekErr}
+use Rattle.combine_base.specs.declared.error.tracked.Tracked.{Tracked}
 use Rattle.combine_base.specs.declared.stream.Failures.{Failures}
 use Rattle.combine_base.specs.declared.stream.Kind.TheVariants as kinds
 use Rattle.combine_function.specs.Functions.{AnswersAt, AnswersWith, IsFunction, KeepsLaws}

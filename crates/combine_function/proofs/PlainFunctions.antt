@@ -9,8 +9,8 @@ use Rattle.combine_base.specs.Parser.Drivers.{Starts, afresh}
 use Rattle.combine_base.specs.Parser.Meaning.{IsReading, IsSingle, Meaning}
 use Rattle.combine_base.specs.Parser.Outcome.{Accepted, IsDecided, Outcome, Refused}
 use Rattle.combine_base.specs.Stream.View.{Takes, View}
-use Rattle.combine_base.specs.declared.error.ParseResult.{ParseResult}
-use Rattle.combine_base.specs.declared.error.ParseResult.TheVariants.{CommitOk, PeekOk, CommitErr, PeekErr}
+use Rattle.combine_base.specs.declared.error.result.ParseResult.{ParseResult}
+use Rattle.combine_base.specs.declared.error.result.ParseResult.TheVariants.{CommitOk, PeekOk, CommitErr, PeekErr}
 use Rattle.combine_base.specs.declared.stream.Failures.{Failures}
 use Rattle.combine_base.specs.declared.stream.Kind.{Kind}
 use Rattle.combine_base.specs.declared.stream.Kind.TheVariants as kinds

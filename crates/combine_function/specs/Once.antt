@@ -6,7 +6,7 @@ use Rattle.combine_base.specs.Parser.Meaning.{IsMeaning, IsReading, Meaning, Rea
 use Rattle.combine_base.specs.Stream.Calls.{Passes}
 use Rattle.combine_base.specs.Stream.View.{View}
 use Rattle.combine_base.specs.Parser.RunOnce.{once_world, unless_stopped, unless_stopped_is_reading}
-use Rattle.combine_base.specs.declared.error.ParseResult.{ParseResult}
+use Rattle.combine_base.specs.declared.error.result.ParseResult.{ParseResult}
 use Rattle.combine_base.specs.declared.stream.Failures.{Failures}
 
 -- its errors are any

@@ -6,8 +6,8 @@ use Rattle.combine_base.specs.Parser.Drivers.{Starts, afresh}
 use Rattle.combine_base.specs.Parser.Meaning.{IsMeaning, Meaning}
 use Rattle.combine_base.specs.Stream.Calls.{Passes}
 use Rattle.combine_base.specs.Stream.View.{Moves, View}
-use Rattle.combine_base.specs.declared.error.ParseResult.{ParseResult}
-use Rattle.combine_base.specs.declared.error.ParseResult.TheVariants.{CommitOk, PeekOk, CommitErr, PeekErr}
+use Rattle.combine_base.specs.declared.error.result.ParseResult.{ParseResult}
+use Rattle.combine_base.specs.declared.error.result.ParseResult.TheVariants.{CommitOk, PeekOk, CommitErr, PeekErr}
 use Rattle.combine_base.specs.declared.stream.Failures.{Failures}
 use Rattle.combine_base.specs.declared.stream.Kind.{Kind}
 use Rattle.combine_base.specs.declared.stream.Kind.TheVariants as kinds

@@ -17,8 +17,8 @@ use Rattle.combine_base.proofs.Errors.CallReasons.{reasons_after, reasons_commit
 use Rattle.combine_base.proofs.Parsers.SameMeanings.{same_more, same_none}
 use Rattle.combine_base.proofs.Sequences.SequenceResumes.{following_resumes, sequel_resumes, accepted_resumes}
 use Rattle.combine_base.proofs.Parsers.CallStarts.{progress_here, progress_left}
-use Rattle.combine_base.specs.declared.error.ParseResult.{ParseResult}
-use Rattle.combine_base.specs.declared.error.ParseResult.TheVariants.{CommitOk, PeekOk, CommitErr, PeekErr}
+use Rattle.combine_base.specs.declared.error.result.ParseResult.{ParseResult}
+use Rattle.combine_base.specs.declared.error.result.ParseResult.TheVariants.{CommitOk, PeekOk, CommitErr, PeekErr}
 use Rattle.combine_base.specs.declared.parser.Parser as parser
 use Rattle.combine_base.specs.declared.stream.Failures.{Failures}
 use Rattle.combine_base.specs.declared.stream.Kind.TheVariants as kinds

@@ -10,7 +10,7 @@ use Rattle.combine_base.specs.Sequence.Parts.{call_from}
 use Rattle.combine_base.specs.Stream.View.{View}
 use Rattle.combine_base.proofs.Errors.MeantRefusals.{refusal_is_meant, refusal_meant}
 use Rattle.combine_base.specs.declared.stream.Failures.{Failures}
-use Rattle.combine_base.specs.declared.error.ParseResult.{ParseResult}
+use Rattle.combine_base.specs.declared.error.result.ParseResult.{ParseResult}
 use Rattle.combine_repeat.specs.ItemErrors.{RefusesAtItem, from_item, item_peeks, item_refuses, items_refuse}
 
 -- with more errors of its own

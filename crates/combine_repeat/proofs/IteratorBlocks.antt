@@ -9,8 +9,8 @@ use Rattle.combine_base.proofs.Parsers.Progress.{takes_more}
 use Rattle.combine_base.specs.declared.stream.Kind.{Kind}
 use Rattle.combine_base.specs.declared.stream.Kind.TheVariants as kinds
 use Rattle.combine_base.specs.declared.stream.Failures.{Failures}
-use Rattle.combine_base.specs.declared.error.Tracked.{Tracked}
-use Rattle.combine_base.specs.declared.error.ParseResult.TheVariants.{PeekErr}
+use Rattle.combine_base.specs.declared.error.tracked.Tracked.{Tracked}
+use Rattle.combine_base.specs.declared.error.result.ParseResult.TheVariants.{PeekErr}
 use Rattle.combine_repeat.specs.Turns.Bounds.{is_block_at}
 use Rattle.combine_repeat.specs.declared.bounds.Bounds.TheVariants.{Unbounded}
 use Rattle.combine_repeat.specs.IteratorTurn.{JudgesIterTurn, HasIterTurnFailed, Unreset, iter_turn_place}

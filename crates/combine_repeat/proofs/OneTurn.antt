@@ -10,9 +10,9 @@ use Rattle.combine_base.proofs.Parsers.SameMeanings.{answers_same, same_none, sa
 use Rattle.combine_base.specs.declared.stream.Kind.{Kind}
 use Rattle.combine_base.specs.declared.stream.Kind.TheVariants as kinds
 use Rattle.combine_base.specs.declared.stream.Failures.{Failures}
-use Rattle.combine_base.specs.declared.error.Tracked.{Tracked}
-use Rattle.combine_base.specs.declared.error.ParseResult.{ParseResult}
-use Rattle.combine_base.specs.declared.error.ParseResult.TheVariants.{CommitErr, PeekErr}
+use Rattle.combine_base.specs.declared.error.tracked.Tracked.{Tracked}
+use Rattle.combine_base.specs.declared.error.result.ParseResult.{ParseResult}
+use Rattle.combine_base.specs.declared.error.result.ParseResult.TheVariants.{CommitErr, PeekErr}
 use Rattle.combine_repeat.specs.Turns.Blocks.{Collecting}
 use Rattle.combine_repeat.specs.Turns.Turn.{Start, TurnsSame, called}
 use Rattle.combine_repeat.specs.Turns.Bounds.{cut_at, is_block_at, count_bound, turn_after, so_far}

@@ -6,7 +6,7 @@ use Rattle.combine_base.specs.Parser.Answer.{CallRecord, World, Answers}
 use Rattle.combine_base.specs.Parser.Reasons.{ReasonedCall}
 use Rattle.combine_base.specs.Stream.View.{View}
 use Rattle.combine_repeat.specs.Turns.Turn.{called, from_start}
-use Rattle.combine_base.specs.declared.error.ParseResult.{ParseResult}
+use Rattle.combine_base.specs.declared.error.result.ParseResult.{ParseResult}
 
 pub plain_called : {P T R A S E : Type 0} (w : World P T S E) (m : Meaning P T R E A S) (r : CallRecord P T S) (later : Bool) (x : ParseResult A E) → Answers w m r x → Answers w (called m (from_start m) later) r x
 plain_called w m r true x p = p

@@ -15,9 +15,9 @@ use Rattle.combine_repeat.specs.Turns.OneTurn.{IsTurnBlock, AreTurnsOver, EndedB
 use Rattle.combine_repeat.proofs.TurnSteps.{turned_full}
 use Rattle.combine_repeat.proofs.TurnCalls.{ReachesTurn, EndsWithTurn, turn_accepts, turn_ends, turn_peeks, turn_told, turn_unstored, turn_unreset, turn_goes, turn_asks, turn_fails}
 use Rattle.combine_base.specs.declared.stream.Failures.{Failures}
-use Rattle.combine_base.specs.declared.error.Tracked.{Tracked}
-use Rattle.combine_base.specs.declared.error.ParseResult.{ParseResult}
-use Rattle.combine_base.specs.declared.error.ParseResult.TheVariants.{CommitErr}
+use Rattle.combine_base.specs.declared.error.tracked.Tracked.{Tracked}
+use Rattle.combine_base.specs.declared.error.result.ParseResult.{ParseResult}
+use Rattle.combine_base.specs.declared.error.result.ParseResult.TheVariants.{CommitErr}
 use Rattle.combine_repeat.specs.declared.bounds.Bounds.{Bounds}
 use Rattle.combine_repeat.specs.declared.bounds.Bounds.TheVariants.{Unbounded, OwnFirst, Counted}
 use Rattle.combine_repeat.specs.declared.bounds.TurnIndex.{TurnIndex}

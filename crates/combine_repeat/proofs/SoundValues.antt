@@ -4,8 +4,8 @@ use Rattle.combine_base.specs.Parser.GivenValues.{ReadsOnly}
 use Rattle.combine_base.specs.Parser.Meaning.{Meaning, begun}
 use Rattle.combine_base.specs.Parser.Answer.{CallRecord, World, Accepts}
 use Rattle.combine_base.specs.Sequence.Parts.{accepted_as, refused_as}
-use Rattle.combine_base.specs.declared.error.Tracked.{Tracked}
-use Rattle.combine_base.specs.declared.error.ParseResult.{ParseResult}
+use Rattle.combine_base.specs.declared.error.tracked.Tracked.{Tracked}
+use Rattle.combine_base.specs.declared.error.result.ParseResult.{ParseResult}
 use Rattle.combine_repeat.specs.Turns.Blocks.{Collecting}
 use Rattle.combine_repeat.specs.Turns.Bounds.{full_at, kept_or}
 use Rattle.combine_repeat.specs.Turns.Turn.{Start, TurnsGive, called}

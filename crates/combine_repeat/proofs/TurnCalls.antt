@@ -13,9 +13,9 @@ use Rattle.combine_repeat.proofs.TurnSteps.{turned_stop, turned_block, turned_cu
 use Rattle.combine_base.specs.declared.stream.Kind.{Kind}
 use Rattle.combine_base.specs.declared.stream.Kind.TheVariants as kinds
 use Rattle.combine_base.specs.declared.stream.Failures.{Failures}
-use Rattle.combine_base.specs.declared.error.Tracked.{Tracked}
-use Rattle.combine_base.specs.declared.error.ParseResult.{ParseResult}
-use Rattle.combine_base.specs.declared.error.ParseResult.TheVariants.{CommitErr, PeekErr}
+use Rattle.combine_base.specs.declared.error.tracked.Tracked.{Tracked}
+use Rattle.combine_base.specs.declared.error.result.ParseResult.{ParseResult}
+use Rattle.combine_base.specs.declared.error.result.ParseResult.TheVariants.{CommitErr, PeekErr}
 
 -- a call that takes all that is left has taken all
 every_token : {P T : Type 0} {step : P → T → P} (n m : ℕ) (u v : View P T) → Takes step n u v → m ≡ length v.unread → n + m ≡ length u.unread

@@ -15,7 +15,7 @@ use Rattle.combine_repeat.specs.declared.bounds.TurnIndex.{TurnIndex}
 use Rattle.combine_base.specs.declared.parser.Parser as parser
 use Rattle.combine_base.specs.declared.stream.StreamOnce as stream
 use Rattle.combine_base.specs.declared.stream.Kind.TheVariants as kinds
-use Rattle.combine_base.specs.declared.error.ParseResult.TheVariants.{CommitErr}
+use Rattle.combine_base.specs.declared.error.result.ParseResult.TheVariants.{CommitErr}
 use Rattle.combine_repeat.specs.declared.iterate.IterStep.{IterStep}
 use Rattle.combine_repeat.specs.declared.iterate.IterStep.TheVariants.{Gives, Over, Fails}
 

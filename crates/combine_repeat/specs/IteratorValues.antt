@@ -15,8 +15,8 @@ use Rattle.combine_base.specs.declared.parser.Parser as parser
 use Rattle.combine_base.specs.declared.stream.StreamOnce as stream
 use Rattle.combine_base.specs.declared.stream.Kind.{Kind}
 use Rattle.combine_base.specs.declared.stream.Kind.TheVariants as kinds
-use Rattle.combine_base.specs.declared.error.ParseResult.{ParseResult}
-use Rattle.combine_base.specs.declared.error.ParseResult.TheVariants.{CommitErr}
+use Rattle.combine_base.specs.declared.error.result.ParseResult.{ParseResult}
+use Rattle.combine_base.specs.declared.error.result.ParseResult.TheVariants.{CommitErr}
 use Rattle.combine_repeat.specs.IteratorTurn.{TurnCalled, iter_turn_place}
 use Rattle.combine_repeat.specs.declared.iterate.Iter.{Iter}
 use Rattle.combine_repeat.specs.declared.iterate.IterStage.{IterStage}

@@ -12,8 +12,8 @@ use Rattle.combine_base.proofs.Parsers.InnerCalls.{InsideCall, KeepsAround, insi
 use Rattle.combine_base.proofs.Parsers.CallStarts.{progress_here}
 use Rattle.combine_base.proofs.Sequences.SequenceResumes.{following_resumes}
 use Rattle.combine_base.specs.declared.stream.Failures.{Failures}
-use Rattle.combine_base.specs.declared.error.ParseResult.{ParseResult}
-use Rattle.combine_base.specs.declared.error.ParseResult.TheVariants.{CommitOk, PeekOk, CommitErr, PeekErr}
+use Rattle.combine_base.specs.declared.error.result.ParseResult.{ParseResult}
+use Rattle.combine_base.specs.declared.error.result.ParseResult.TheVariants.{CommitOk, PeekOk, CommitErr, PeekErr}
 use Rattle.combine_separated.specs.PartCalls.{RanPart}
 
 module _ {P T R A B S S' E : Type 0} (w : World P T S E) (fresh : S' → Type 0) (m : Meaning P T R E A S) (m' : Meaning P T R E B S') (f : A → B) (keep : S → S') where

@@ -10,8 +10,8 @@ use Rattle.combine_base.specs.Sequence.Parts.{joined_answer}
 use Rattle.combine_base.proofs.Errors.CallErrors.{around}
 use Rattle.combine_base.proofs.Errors.MeantRefusals.{reasoned_accepted, reasoned_error, reasoned_into, reasoned_peeked, reasoned_refusal}
 use Rattle.combine_base.specs.declared.stream.Failures.{Failures}
-use Rattle.combine_base.specs.declared.error.ParseResult.{ParseResult}
-use Rattle.combine_base.specs.declared.error.ParseResult.TheVariants.{CommitOk, PeekOk, CommitErr, PeekErr}
+use Rattle.combine_base.specs.declared.error.result.ParseResult.{ParseResult}
+use Rattle.combine_base.specs.declared.error.result.ParseResult.TheVariants.{CommitOk, PeekOk, CommitErr, PeekErr}
 use Rattle.combine_repeat.specs.Turns.Turn.{called}
 use Rattle.combine_separated.specs.PartCalls.{RanPart}
 use Rattle.combine_separated.specs.Separated.{separated_fresh, separated_valid, first_then, kept_lost, kept_reading, kept_refuses, later_kept, later_turn, turn_place}

@@ -6,9 +6,9 @@ use Rattle.combine_base.specs.Error.Errors.{Observers}
 use Rattle.combine_base.specs.Parser.Meaning.{Meaning, IsMeaning}
 use Rattle.combine_base.specs.Parser.Answer.{CallRecord, World, world}
 use Rattle.combine_base.specs.declared.stream.Failures.{Failures}
-use Rattle.combine_base.specs.declared.error.Tracked.{Tracked}
-use Rattle.combine_base.specs.declared.error.ParseResult.{ParseResult}
-use Rattle.combine_base.specs.declared.error.ParseResult.TheVariants.{CommitOk, PeekOk, CommitErr, PeekErr}
+use Rattle.combine_base.specs.declared.error.tracked.Tracked.{Tracked}
+use Rattle.combine_base.specs.declared.error.result.ParseResult.{ParseResult}
+use Rattle.combine_base.specs.declared.error.result.ParseResult.TheVariants.{CommitOk, PeekOk, CommitErr, PeekErr}
 use Rattle.combine_choice.specs.Choice.ChoiceCalls.{Chose, Followed, Tried}
 use Rattle.combine_choice.specs.Choice.FirstAlternative.{joined_with_first}
 use Rattle.combine_choice.specs.Choice.Or.{either_of, or_valid}

@@ -15,9 +15,9 @@ use Rattle.combine_base.proofs.Parsers.SameMeanings.{answers_same}
 use Rattle.combine_base.specs.declared.stream.Kind.{Kind}
 use Rattle.combine_base.specs.declared.stream.Kind.TheVariants as kinds
 use Rattle.combine_base.specs.declared.stream.Failures.{Failures}
-use Rattle.combine_base.specs.declared.error.Tracked.{Tracked}
-use Rattle.combine_base.specs.declared.error.ParseResult.{ParseResult}
-use Rattle.combine_base.specs.declared.error.ParseResult.TheVariants.{CommitErr, PeekErr}
+use Rattle.combine_base.specs.declared.error.tracked.Tracked.{Tracked}
+use Rattle.combine_base.specs.declared.error.result.ParseResult.{ParseResult}
+use Rattle.combine_base.specs.declared.error.result.ParseResult.TheVariants.{CommitErr, PeekErr}
 use Rattle.combine_combinator.specs.Attempt.{LosesTry, Short, LostWithin}
 use Rattle.combine_repeat.specs.Turns.Blocks.{Block, outcome, taken, values, any_committed, TakesBlock, StopsTurns, Collecting, TurnsSoFar, FoldsAll, DividesBlocks, HoldsCollected}
 use Rattle.combine_until.specs.Until.{block_at, until_judged, until_rule, stop_at, stopped_at, Until, no_blocks, blocks_so_far, until_fresh, until_valid, until_is_rule, until_into, until, until_lost}

@@ -13,8 +13,8 @@ use Rattle.combine_base.specs.Stream.View.{View, Takes, advanced}
 use Rattle.combine_base.proofs.Errors.CallErrors.{need_of_more, same_mark as marks_same}
 use Rattle.combine_base.proofs.Parsers.Progress.{takes_more, takes_open}
 use Rattle.combine_base.proofs.Errors.CallReasons.{reasons_accepted, reasons_committed, reasons_fault, reasons_need, reasons_peeked}
-use Rattle.combine_base.specs.declared.error.ParseResult.{ParseResult}
-use Rattle.combine_base.specs.declared.error.ParseResult.TheVariants.{CommitErr}
+use Rattle.combine_base.specs.declared.error.result.ParseResult.{ParseResult}
+use Rattle.combine_base.specs.declared.error.result.ParseResult.TheVariants.{CommitErr}
 use Rattle.combine_base.specs.declared.stream.Failures.{Failures}
 use Rattle.combine_base.specs.declared.stream.Kind.{Kind}
 use Rattle.combine_base.specs.declared.stream.Kind.TheVariants as kinds

@@ -6,7 +6,7 @@ use Rattle.combine_base.specs.Parser.Answer.{CallRecord, World, Answers, Accepts
 use Rattle.combine_base.specs.Distances.{stops_distance}
 use Rattle.combine_base.proofs.Errors.CallErrors.{need_of_more, same_mark}
 use Rattle.combine_base.proofs.Parsers.Progress.{takes_more}
-use Rattle.combine_base.specs.declared.error.ParseResult.TheVariants.{CommitErr}
+use Rattle.combine_base.specs.declared.error.result.ParseResult.TheVariants.{CommitErr}
 use Rattle.combine_base.specs.declared.stream.Kind.{Kind}
 use Rattle.combine_base.specs.declared.stream.Kind.TheVariants as kinds
 use Rattle.combine_base.specs.declared.stream.Failures.{Failures}

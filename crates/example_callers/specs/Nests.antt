@@ -14,7 +14,7 @@ use Rattle.combine_choice.specs.Choice.Choices.{OrElse, Here, Later}
 use Rattle.combine_token.specs.Token.OneToken.{of_function, of_function_is_predicate, one_token, one_token_at, satisfied, satisfied_is_test, takes_one, takes_one_is_meaning, takes_one_means_one}
 use Rattle.combine_choice.specs.Choice.Optional.{is_some, nothing_taken, optional_is_meaning, optional_means_one}
 use Rattle.combine_token.specs.Token.Stateless.{stateless, stateless_is_meaning, stateless_means_one}
-use Rattle.combine_base.specs.declared.error.UnexpectedParse.{UnexpectedParse}
+use Rattle.combine_base.specs.declared.error.unexpected.UnexpectedParse.{UnexpectedParse}
 
 -- the value of the second of two parts
 abbrev pub second : {A B : Type 0} → A → B → B

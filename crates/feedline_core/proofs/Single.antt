@@ -14,7 +14,7 @@ use Rattle.combine_combinator.specs.Attempt.{attempted_means_one}
 use Rattle.combine_repeat.specs.Repeat.Repeated.{appended, repeated_means_one}
 use Rattle.combine_repeat.specs.declared.bounds.Bounds.TheVariants.{OwnFirst}
 use Rattle.combine_repeat.specs.declared.turns.TurnsState.{TurnsState}
-use Rattle.combine_base.specs.declared.error.UnexpectedParse.{UnexpectedParse}
+use Rattle.combine_base.specs.declared.error.unexpected.UnexpectedParse.{UnexpectedParse}
 use Rattle.feedline_core.specs.Messages.{step, byte_meaning, byte_where, bytes_where, delete, set, message}
 use Rattle.feedline_core.specs.declared.message.Message.TheVariants.{Set, Delete}
 

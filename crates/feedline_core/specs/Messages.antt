@@ -12,7 +12,7 @@ use Rattle.combine_base.specs.Sequence.Tuples.{tuple_3, tuple_4}
 use Rattle.combine_choice.specs.Choice.Alternatives.{both_merged}
 use Rattle.combine_choice.specs.Choice.Or.{either_of}
 use Rattle.combine_token.specs.Token.OneToken.{of_function, satisfied, takes_one}
-use Rattle.combine_base.specs.declared.error.UnexpectedParse.{UnexpectedParse}
+use Rattle.combine_base.specs.declared.error.unexpected.UnexpectedParse.{UnexpectedParse}
 use Rattle.combine_base.specs.declared.sequence.SequenceState.{SequenceState}
 use Rattle.combine_base.specs.declared.sequence.states.PartialState3.{PartialState3}
 use Rattle.combine_base.specs.declared.sequence.states.PartialState4.{PartialState4}

@@ -5,8 +5,8 @@ use Rattle.combine_base.specs.Error.Items.{end_of_input}
 use Rattle.combine_base.specs.Refusals.{HasItems}
 use Rattle.combine_base.specs.Stream.View.{View, advanced}
 use Rattle.combine_base.specs.declared.stream.Kind.TheVariants as kinds
-use Rattle.combine_base.specs.declared.error.ParseResult.{ParseResult}
-use Rattle.combine_base.specs.declared.error.ParseResult.TheVariants.{CommitOk, PeekOk, CommitErr, PeekErr}
+use Rattle.combine_base.specs.declared.error.result.ParseResult.{ParseResult}
+use Rattle.combine_base.specs.declared.error.result.ParseResult.TheVariants.{CommitOk, PeekOk, CommitErr, PeekErr}
 use Rattle.combine_byte.specs.Search.Searches.{Search, UnfitSearch, Absent, Short, Inner, Split}
 
 module _ {T R P Q E : Type 0} (observers : Observers T R P E) (step : P → T → P) (size : T → ℕ) (spells : Q → List T → Type 0) (s : Search T) where

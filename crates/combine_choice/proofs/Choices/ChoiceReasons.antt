@@ -7,9 +7,9 @@ use Rattle.combine_base.specs.Parser.Reasons.{Reasoned}
 use Rattle.combine_base.proofs.Errors.CallReasons.{reasons_fault, reasons_hand_on, reasons_ok, reasons_peek_ok, reasons_peeked}
 use Rattle.combine_base.proofs.Errors.Explanations.{reason_peeked}
 use Rattle.combine_base.specs.declared.stream.Kind.TheVariants as kinds
-use Rattle.combine_base.specs.declared.error.Tracked.{Tracked}
-use Rattle.combine_base.specs.declared.error.ParseResult.{ParseResult}
-use Rattle.combine_base.specs.declared.error.ParseResult.TheVariants.{CommitOk, PeekOk, CommitErr, PeekErr}
+use Rattle.combine_base.specs.declared.error.tracked.Tracked.{Tracked}
+use Rattle.combine_base.specs.declared.error.result.ParseResult.{ParseResult}
+use Rattle.combine_base.specs.declared.error.result.ParseResult.TheVariants.{CommitOk, PeekOk, CommitErr, PeekErr}
 use Rattle.combine_choice.specs.Choice.Alternatives.{AfterRefusal, refuses_both}
 use Rattle.combine_choice.specs.Choice.Or.{either_of}
 use Rattle.combine_choice.specs.Choice.ChoiceErrors.{RefusesOr, or_into}

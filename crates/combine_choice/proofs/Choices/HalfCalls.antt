@@ -9,8 +9,8 @@ use Rattle.combine_base.specs.Stream.Calls.{Passes}
 use Rattle.combine_base.proofs.Errors.MeantRefusals.{reasoned_meant}
 use Rattle.combine_base.proofs.Parsers.SameMeanings.{passes_more, passes_none, same_none}
 use Rattle.combine_base.specs.declared.stream.Failures.{Failures}
-use Rattle.combine_base.specs.declared.error.Tracked.{Tracked}
-use Rattle.combine_base.specs.declared.error.ParseResult.{ParseResult}
+use Rattle.combine_base.specs.declared.error.tracked.Tracked.{Tracked}
+use Rattle.combine_base.specs.declared.error.result.ParseResult.{ParseResult}
 use Rattle.combine_choice.specs.Choice.Alternatives.{PeeksNoFault}
 use Rattle.combine_choice.proofs.Choices.MergedRefusals.{JoinsKinds, no_fault}
 use Rattle.combine_choice.specs.Choice.Or.{either_of, or_valid, or_means_same}
@@ -20,7 +20,7 @@ use Rattle.combine_choice.specs.Choice.ChoiceCalls.{Chose, Followed, Tried}
 use Rattle.combine_choice.specs.Choice.FirstAlternative.{FirstAnswered, FirstEnded, FirstFailed, JudgesFirst, IsFinal, NoFault, RanFirst, SettlesLater, MayFollowRefusal, first_begins_in, first_did}
 use Rattle.combine_choice.specs.declared.or.first.FirstResult.TheVariants.{Done, RunsLater}
 use Rattle.combine_base.specs.Parser.Reasons.{Reasoned}
-use Rattle.combine_base.specs.declared.error.ParseResult.TheVariants.{CommitOk, PeekOk, CommitErr, PeekErr}
+use Rattle.combine_base.specs.declared.error.result.ParseResult.TheVariants.{CommitOk, PeekOk, CommitErr, PeekErr}
 use Rattle.combine_base.specs.declared.stream.Kind.TheVariants as kinds
 use Rattle.combine_base.proofs.Errors.CallReasons.{reasons_fault, reasons_ok, reasons_peek_ok}
 use Rattle.combine_choice.proofs.Choices.ChoiceReasons.{begun_refusals, first_reasons, from_second, second_reasons}

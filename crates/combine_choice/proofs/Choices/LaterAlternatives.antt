@@ -9,9 +9,9 @@ use Rattle.combine_base.specs.Parser.Answer.{CallRecord, World, Answers, world}
 use Rattle.combine_base.specs.Stream.Calls.{Passes}
 use Rattle.combine_base.proofs.Errors.CallErrors.{unreset}
 use Rattle.combine_base.specs.declared.stream.Failures.{Failures}
-use Rattle.combine_base.specs.declared.error.Tracked.{Tracked}
-use Rattle.combine_base.specs.declared.error.ParseResult.{ParseResult}
-use Rattle.combine_base.specs.declared.error.ParseResult.TheVariants.{CommitOk, PeekOk, CommitErr, PeekErr}
+use Rattle.combine_base.specs.declared.error.tracked.Tracked.{Tracked}
+use Rattle.combine_base.specs.declared.error.result.ParseResult.{ParseResult}
+use Rattle.combine_base.specs.declared.error.result.ParseResult.TheVariants.{CommitOk, PeekOk, CommitErr, PeekErr}
 use Rattle.combine_choice.specs.Choice.Choices.{OrElse, refused, either_into}
 use Rattle.combine_choice.specs.Choice.Or.{either_of, or_valid}
 use Rattle.combine_choice.proofs.Choices.ChoiceOutcomes.{Tries, tries_next, tries_commit_ok, tries_peek_ok, tries_fails, tries_asks, tries_ends, tries_needs}

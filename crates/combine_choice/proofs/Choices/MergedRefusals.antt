@@ -7,9 +7,9 @@ use Rattle.combine_base.specs.Parser.Answer.{CallRecord, World, Answers, world, 
 use Rattle.combine_base.proofs.Errors.CallErrors.{peeked_refusal}
 use Rattle.combine_base.specs.declared.stream.Kind.{Kind}
 use Rattle.combine_base.specs.declared.stream.Kind.TheVariants as kinds
-use Rattle.combine_base.specs.declared.error.Tracked.{Tracked}
-use Rattle.combine_base.specs.declared.error.ParseResult.{ParseResult}
-use Rattle.combine_base.specs.declared.error.ParseResult.TheVariants.{CommitOk, PeekOk, CommitErr, PeekErr}
+use Rattle.combine_base.specs.declared.error.tracked.Tracked.{Tracked}
+use Rattle.combine_base.specs.declared.error.result.ParseResult.{ParseResult}
+use Rattle.combine_base.specs.declared.error.result.ParseResult.TheVariants.{CommitOk, PeekOk, CommitErr, PeekErr}
 use Rattle.combine_choice.specs.Choice.Alternatives.{AfterRefusal, both_merged, refuses_both}
 
 module _ {P T R V S E : Type 0} (w : World P T S E) (m : Meaning P T R E V S) (r : CallRecord P T S) where

@@ -10,8 +10,8 @@ use Rattle.combine_base.specs.Parser.Answer.{CallRecord, World, Answers}
 use Rattle.combine_base.proofs.Errors.CallErrors.{peeked_refusal}
 use Rattle.combine_base.proofs.Parsers.ValueMap.{mapped_err, mapped_peek_err, mapped_ok, mapped_peek_ok}
 use Rattle.combine_base.specs.declared.stream.Failures.{Failures}
-use Rattle.combine_base.specs.declared.error.Tracked.{Tracked}
-use Rattle.combine_base.specs.declared.error.ParseResult.TheVariants.{CommitOk, PeekOk, CommitErr, PeekErr}
+use Rattle.combine_base.specs.declared.error.tracked.Tracked.{Tracked}
+use Rattle.combine_base.specs.declared.error.result.ParseResult.TheVariants.{CommitOk, PeekOk, CommitErr, PeekErr}
 use Rattle.combine_choice.specs.Choice.Optional.{otherwise, optional, is_some, nothing_taken}
 use Rattle.combine_choice.proofs.Choices.ChoiceOutcomes.{Tries, own_commit_ok, own_peek_ok, own_error, tries_falls}
 

@@ -6,11 +6,11 @@ use Rattle.combine_base.specs.Parser.Reasons.{Reasoned}
 use Rattle.combine_base.specs.Stream.Calls.{Passes}
 use Rattle.std.specs.Prelude.{Bool, Option}
 use Rattle.combine_base.specs.declared.stream.Failures.{Failures}
-use Rattle.combine_base.specs.declared.error.ParseResult.{ParseResult}
+use Rattle.combine_base.specs.declared.error.result.ParseResult.{ParseResult}
 use Rattle.combine_choice.specs.declared.or.OrState.{OrState}
 use Rattle.combine_choice.specs.Choice.FirstAlternative.{SettlesLater, FirstDid}
 use Rattle.combine_base.specs.Error.Errors.{Observers}
-use Rattle.combine_base.specs.declared.error.Tracked.{Tracked}
+use Rattle.combine_base.specs.declared.error.tracked.Tracked.{Tracked}
 use Rattle.combine_choice.specs.declared.or.first.FirstResult.{FirstResult}
 use Rattle.combine_base.specs.declared.stream.StreamOnce as stream
 

@@ -13,7 +13,7 @@ use std::marker::PhantomData;
 /// What is called as a parser. Our own.
 pub trait Call<Input: Stream> {
     ghost use Rattle.std.specs.Prelude.{◌≡◌, IfErr, IfOk};
-    ghost use Rattle.combine_base.specs.declared.error.ParseResult.{ParseResult};
+    ghost use Rattle.combine_base.specs.declared.error.result.ParseResult.{ParseResult};
 
     /// The value of an acceptance.
     type Value: Drop;

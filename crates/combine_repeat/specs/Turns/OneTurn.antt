@@ -9,9 +9,9 @@ use Rattle.combine_repeat.specs.Turns.Blocks.{Collecting}
 use Rattle.combine_repeat.specs.Turns.Bounds.{counted_to, is_enough, is_block_at, cut_at, turn_after, so_far}
 use Rattle.combine_base.specs.declared.stream.Failures.{Failures}
 use Rattle.combine_base.specs.declared.stream.Kind.TheVariants as kinds
-use Rattle.combine_base.specs.declared.error.Tracked.{Tracked}
-use Rattle.combine_base.specs.declared.error.ParseResult.{ParseResult}
-use Rattle.combine_base.specs.declared.error.ParseResult.TheVariants.{CommitErr, PeekErr}
+use Rattle.combine_base.specs.declared.error.tracked.Tracked.{Tracked}
+use Rattle.combine_base.specs.declared.error.result.ParseResult.{ParseResult}
+use Rattle.combine_base.specs.declared.error.result.ParseResult.TheVariants.{CommitErr, PeekErr}
 use Rattle.combine_repeat.specs.declared.bounds.Bounds.{Bounds}
 use Rattle.combine_repeat.specs.declared.bounds.TurnIndex.{TurnIndex}
 use Rattle.combine_repeat.specs.declared.turns.TurnStep.{TurnStep}

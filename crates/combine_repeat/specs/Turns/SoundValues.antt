@@ -1,7 +1,7 @@
 -- what is known of what is gathered, where each value of it could be, before any turn is over and after that
 use Rattle.std.specs.Prelude.{◌≡◌, Bool, true, false, nat_lt}
-use Rattle.combine_base.specs.declared.error.ParseResult.{ParseResult}
-use Rattle.combine_base.specs.declared.error.ParseResult.TheVariants.{CommitOk, PeekOk, CommitErr, PeekErr}
+use Rattle.combine_base.specs.declared.error.result.ParseResult.{ParseResult}
+use Rattle.combine_base.specs.declared.error.result.ParseResult.TheVariants.{CommitOk, PeekOk, CommitErr, PeekErr}
 use Rattle.combine_repeat.specs.Turns.Bounds.{full_at, is_enough}
 use Rattle.combine_repeat.specs.declared.bounds.Bounds.{Bounds}
 use Rattle.combine_repeat.specs.declared.bounds.TurnIndex.{TurnIndex}

@@ -5,9 +5,9 @@ use Rattle.combine_base.specs.Error.Errors.{Observers}
 use Rattle.combine_base.specs.Parser.Answer.{Answers, CallRecord, world}
 use Rattle.combine_base.specs.Parser.AnswersCalls.{AnswersCall, call_between}
 use Rattle.combine_base.specs.Parser.Meaning.{Meaning}
-use Rattle.combine_base.specs.declared.error.ParseResult.{ParseResult}
-use Rattle.combine_base.specs.declared.error.ParseResult.TheVariants.{PeekErr}
-use Rattle.combine_base.specs.declared.error.Tracked.{Tracked}
+use Rattle.combine_base.specs.declared.error.result.ParseResult.{ParseResult}
+use Rattle.combine_base.specs.declared.error.result.ParseResult.TheVariants.{PeekErr}
+use Rattle.combine_base.specs.declared.error.tracked.Tracked.{Tracked}
 use Rattle.combine_base.specs.declared.stream.StreamOnce as stream
 use Rattle.combine_repeat.specs.Turns.Bounds.{fresh_turns, turns_from}
 use Rattle.combine_repeat.specs.Turns.OneTurn.{TurnDid, CallEndedAt, turns_halted, then_left}

@@ -4,7 +4,7 @@ use Rattle.combine_base.specs.Stream.View.{View}
 use Rattle.combine_base.specs.Error.Items.{end_of_input}
 use Rattle.combine_base.specs.Error.Errors.{Observers, New, Only}
 use Rattle.combine_base.specs.Refusals.{HasItems}
-use Rattle.combine_base.specs.declared.error.Info.{Info}
+use Rattle.combine_base.specs.declared.error.info.Info.{Info}
 use Rattle.combine_base.specs.declared.stream.Kind.TheVariants as kinds
 use Rattle.combine_token.specs.Token.Lists.ListAnswers.{Mismatch}
 use Rattle.combine_token.specs.Token.Lists.TokenLists.{TokenList, Matched, mismatch_at}

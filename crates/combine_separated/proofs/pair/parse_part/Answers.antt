@@ -1,6 +1,6 @@
 use Rattle.std.proofs.Common.{inl, inr, refl}
 use Rattle.combine_base.specs.Parser.Answer.{world}
-use Rattle.combine_base.specs.declared.error.ParseResult.TheVariants.{CommitErr}
+use Rattle.combine_base.specs.declared.error.result.ParseResult.TheVariants.{CommitErr}
 use Rattle.combine_base.proofs.Errors.MeantRefusals.{explained_at_rest}
 use Rattle.combine_base.proofs.Parsers.CallStarts.{at_rest}
 use Rattle.combine_separated.proofs.pair.parse_part.Goals as goal

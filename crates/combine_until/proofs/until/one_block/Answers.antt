@@ -1,6 +1,6 @@
 use Rattle.std.proofs.Common.{false, true, inl, inr, refl, sym, ◌∙◌}
 use Rattle.combine_base.proofs.Errors.MeantRefusals.{refusal_is_meant, refusal_meant}
-use Rattle.combine_base.specs.declared.error.ParseResult.TheVariants.{CommitErr, PeekErr}
+use Rattle.combine_base.specs.declared.error.result.ParseResult.TheVariants.{CommitErr, PeekErr}
 use Rattle.combine_until.specs.UntilTurn.{TakesNothing}
 use Rattle.combine_until.proofs.UntilTurn.{accepts_value, needs_more, unreset_by}
 use Rattle.combine_until.proofs.until.one_block.Goals as goal

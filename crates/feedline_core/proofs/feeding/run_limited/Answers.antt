@@ -1,7 +1,7 @@
 use Rattle.std.proofs.Common.{ℕ, ◌<◌, ◌^◌, rules, map, length, ap, sym, subst, ◌∙◌}
 use Rattle.combine_session.specs.Pieces.{concatenated}
 use Rattle.combine_base.specs.Parser.Meaning.{Meaning}
-use Rattle.combine_base.specs.declared.error.UnexpectedParse.{UnexpectedParse}
+use Rattle.combine_base.specs.declared.error.unexpected.UnexpectedParse.{UnexpectedParse}
 use Rattle.combine_base.specs.declared.sequence.SequenceState.{SequenceState}
 use Rattle.combine_base.specs.declared.sequence.states.PartialState4.{PartialState4}
 use Rattle.combine_combinator.specs.declared.combinator.TryState.{TryState}

@@ -1,7 +1,7 @@
 use Rattle.std.proofs.Common.{inl, inr, refl, ap}
 use Rattle.combine_base.specs.Parser.Answer.{world}
 use Rattle.combine_base.proofs.Parsers.CallStarts.{at_rest}
-use Rattle.combine_base.specs.declared.error.ParseResult.TheVariants.{CommitOk, PeekOk, CommitErr, PeekErr}
+use Rattle.combine_base.specs.declared.error.result.ParseResult.TheVariants.{CommitOk, PeekOk, CommitErr, PeekErr}
 use Rattle.combine_repeat.specs.declared.iterate.items.Item.TheVariants as items
 use Rattle.combine_repeat.proofs.ItemErrors.{item_at_rest}
 use Rattle.combine_repeat.proofs.iterate.items.parse_item.Goals as goal

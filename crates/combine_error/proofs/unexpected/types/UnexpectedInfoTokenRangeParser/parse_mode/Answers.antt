@@ -1,7 +1,7 @@
 use Rattle.std.proofs.Common.{ap}
 use Rattle.combine_base.specs.Error.Errors.{Only}
 use Rattle.combine_base.specs.Error.Items.{Unexpected as SaysUnexpected, shown}
-use Rattle.combine_base.specs.declared.error.Tracked.{Tracked}
+use Rattle.combine_base.specs.declared.error.tracked.Tracked.{Tracked}
 use Rattle.combine_error.specs.Unexpected.{unexpected_info}
 use Rattle.combine_error.proofs.UnexpectedRefusals.{refused_says}
 use Rattle.combine_error.proofs.unexpected.types.UnexpectedInfoTokenRangeParser.parse_mode.Goals as goal
