@@ -21,7 +21,7 @@ use combine_error::spanned::types::Spanned;
 use combine_error::{error, spanned as spans};
 use combine_function::combinator as changes;
 use combine_function::combinator::types::{AndThen, FlatMap, MapInput};
-use combine_repeat::iterate::Iter;
+use combine_repeat::iter::Iter;
 use combine_sequence::sequence;
 use combine_sequence::sequence::types::{Skip, Then, ThenPartial, ThenRef, With};
 

@@ -13,9 +13,9 @@ use Rattle.combine_repeat.specs.Turns.Blocks.{Block, outcome, TakesBlock, StopsT
 use Rattle.combine_repeat.specs.declared.bounds.Bounds.TheVariants.{Unbounded}
 use Rattle.combine_repeat.specs.IteratorTurn.{IterTurnDid, HasIterTurnFailed, InTurn, TakesNothing, Unreset, iter_turn_place}
 use Rattle.combine_repeat.specs.IteratorValues.{Continues, longer, remains, iter_stage_after, takes_any}
-use Rattle.combine_repeat.specs.declared.iterate.IterStage.TheVariants as stages
-use Rattle.combine_repeat.specs.declared.iterate.IterStep.{IterStep}
-use Rattle.combine_repeat.specs.declared.iterate.IterStep.TheVariants.{Gives, Over, Fails}
+use Rattle.combine_repeat.specs.declared.iter.IterStage.TheVariants as stages
+use Rattle.combine_repeat.specs.declared.iter.IterStep.{IterStep}
+use Rattle.combine_repeat.specs.declared.iter.IterStep.TheVariants.{Gives, Over, Fails}
 use Rattle.combine_repeat.proofs.IteratorDivision.{past_block}
 
 -- past a block, whatever follows

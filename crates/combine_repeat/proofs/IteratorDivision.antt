@@ -13,8 +13,8 @@ use Rattle.combine_repeat.specs.Turns.Blocks.{Block, outcome, StopsTurns, Divide
 use Rattle.combine_repeat.specs.declared.bounds.Bounds.TheVariants.{Unbounded}
 use Rattle.combine_repeat.specs.IteratorTurn.{IterTurnDid, IsIterTurnOver, HasIterTurnFailed, InTurn, TakesNothing, Unreset, iter_turn_place}
 use Rattle.combine_repeat.specs.IteratorValues.{gone_on, remains, error_stops, stage_stops, iter_stage_after}
-use Rattle.combine_repeat.specs.declared.iterate.IterStep.{IterStep}
-use Rattle.combine_repeat.specs.declared.iterate.IterStep.TheVariants.{Gives, Over, Fails}
+use Rattle.combine_repeat.specs.declared.iter.IterStep.{IterStep}
+use Rattle.combine_repeat.specs.declared.iter.IterStep.TheVariants.{Gives, Over, Fails}
 
 -- past a block
 pub past_block : {P T R E A S : Type 0} (step : P → T → P) (m m' : Meaning P T R E A S) → MeansSame m m' → (first again : Bool) (s s' : S) (v u : View P T) (b : Block A) → again ≡ true → begun m first s v (outcome b) → is_block_at Unbounded (iter_turn_place first) b.count b.committed ≡ true → u ≡ advanced step b.count v → (bs : List (Block A)) (l : Outcome (Unit {0})) → remains step m' again s' u bs l → remains step m first s v (b ∷ bs) l

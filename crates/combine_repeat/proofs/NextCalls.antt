@@ -9,11 +9,11 @@ use Rattle.combine_base.specs.declared.stream.StreamOnce as stream
 use Rattle.combine_repeat.specs.Turns.Blocks.{Block}
 use Rattle.combine_repeat.specs.IteratorTurn.{TurnCalled}
 use Rattle.combine_repeat.specs.IteratorValues.{Nexts, at_most_left, runs_next_turn, gone_on, may_go_on, next_at, runs_at, iter_stage_after, stage_stops, values_left}
-use Rattle.combine_repeat.specs.declared.iterate.Iter.{Iter}
-use Rattle.combine_repeat.specs.declared.iterate.IterStage.{IterStage}
-use Rattle.combine_repeat.specs.declared.iterate.IterStage.TheVariants as stages
-use Rattle.combine_repeat.specs.declared.iterate.IterStep.{IterStep}
-use Rattle.combine_repeat.specs.declared.iterate.IterStep.TheVariants.{Gives}
+use Rattle.combine_repeat.specs.declared.iter.Iter.{Iter}
+use Rattle.combine_repeat.specs.declared.iter.IterStage.{IterStage}
+use Rattle.combine_repeat.specs.declared.iter.IterStage.TheVariants as stages
+use Rattle.combine_repeat.specs.declared.iter.IterStep.{IterStep}
+use Rattle.combine_repeat.specs.declared.iter.IterStep.TheVariants.{Gives}
 use Rattle.combine_base.specs.Parser.Meaning.{IsMeaning}
 use Rattle.combine_repeat.proofs.CutValues.{iter_continues, past_block_with}
 use Rattle.combine_repeat.proofs.IteratorDivision.{past_block, stops_here, fewer}

@@ -16,8 +16,8 @@ use Rattle.combine_base.specs.declared.parser.Parser as parser
 use Rattle.combine_base.specs.declared.stream.StreamOnce as stream
 use Rattle.combine_base.specs.declared.stream.Kind.TheVariants as kinds
 use Rattle.combine_base.specs.declared.error.result.ParseResult.TheVariants.{CommitErr}
-use Rattle.combine_repeat.specs.declared.iterate.IterStep.{IterStep}
-use Rattle.combine_repeat.specs.declared.iterate.IterStep.TheVariants.{Gives, Over, Fails}
+use Rattle.combine_repeat.specs.declared.iter.IterStep.{IterStep}
+use Rattle.combine_repeat.specs.declared.iter.IterStep.TheVariants.{Gives, Over, Fails}
 
 -- The place of a turn: none is asked for, and one that resumes may have taken its tokens from an earlier piece.
 abbrev pub iter_turn_place : Bool → TurnIndex

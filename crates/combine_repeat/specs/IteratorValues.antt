@@ -18,11 +18,11 @@ use Rattle.combine_base.specs.declared.stream.Kind.TheVariants as kinds
 use Rattle.combine_base.specs.declared.error.result.ParseResult.{ParseResult}
 use Rattle.combine_base.specs.declared.error.result.ParseResult.TheVariants.{CommitErr}
 use Rattle.combine_repeat.specs.IteratorTurn.{TurnCalled, iter_turn_place}
-use Rattle.combine_repeat.specs.declared.iterate.Iter.{Iter}
-use Rattle.combine_repeat.specs.declared.iterate.IterStage.{IterStage}
-use Rattle.combine_repeat.specs.declared.iterate.IterStage.TheVariants as stages
-use Rattle.combine_repeat.specs.declared.iterate.IterStep.{IterStep}
-use Rattle.combine_repeat.specs.declared.iterate.IterStep.TheVariants.{Gives, Over, Fails}
+use Rattle.combine_repeat.specs.declared.iter.Iter.{Iter}
+use Rattle.combine_repeat.specs.declared.iter.IterStage.{IterStage}
+use Rattle.combine_repeat.specs.declared.iter.IterStage.TheVariants as stages
+use Rattle.combine_repeat.specs.declared.iter.IterStep.{IterStep}
+use Rattle.combine_repeat.specs.declared.iter.IterStep.TheVariants.{Gives, Over, Fails}
 
 -- The turns that are left, of which the first begins afresh or goes on from a state: these blocks, as `many` divides the list, and then a place where the turns stop so. A turn that goes on is a block also if it takes nothing more.
 abbrev pub remains : {P T R E A S : Type 0} → (P → T → P) → Meaning P T R E A S → Bool → S → View P T → List (Block A) → Outcome (Unit {0}) → Type 0

@@ -4,6 +4,7 @@
 pub mod bounds;
 pub mod counts;
 pub mod each;
+pub mod iter;
 pub mod iterate;
 pub mod many;
 pub mod turns;

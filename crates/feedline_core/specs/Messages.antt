@@ -18,7 +18,7 @@ use Rattle.combine_base.specs.declared.sequence.states.PartialState3.{PartialSta
 use Rattle.combine_base.specs.declared.sequence.states.PartialState4.{PartialState4}
 use Rattle.combine_choice.specs.declared.or.OrState.{OrState}
 use Rattle.combine_combinator.specs.Attempt.{attempted}
-use Rattle.combine_combinator.specs.declared.combinator.TryState.{TryState}
+use Rattle.combine_combinator.specs.declared.combinator.types.TryState.{TryState}
 use Rattle.combine_repeat.specs.Repetition.{many1}
 use Rattle.combine_repeat.specs.Repeat.Repeated.{appended}
 use Rattle.combine_repeat.specs.declared.turns.TurnsState.{TurnsState}

@@ -1,4 +1,4 @@
-//! How a turn is called: a type each, so that it is known where the turn is compiled.
+//! How a turn starts: `Afresh`, or `Resumed` from its saved state. Each is a type, so that it is known where the turn is compiled.
 ghost use Rattle.std.specs.Prelude.{true, false};
 
 use crate::turns::TurnParser;

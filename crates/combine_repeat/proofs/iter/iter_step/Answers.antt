@@ -5,8 +5,8 @@ use Rattle.combine_repeat.specs.Turns.Bounds.{Idle, Own}
 use Rattle.combine_repeat.proofs.OneTurn.{turn_put_back}
 use Rattle.combine_repeat.specs.IteratorTurn.{InTurn, TakesNothing}
 use Rattle.combine_repeat.proofs.IteratorBlocks.{iter_turn_judged_by, block_commits, iter_turn_not_put_back}
-use Rattle.combine_repeat.proofs.iterate.iter_step.Goals as goal
-use Rattle.combine_repeat.proofs.iterate.iter_step.Goals.{in-CommitOk, in-PeekOk}
+use Rattle.combine_repeat.proofs.iter.iter_step.Goals as goal
+use Rattle.combine_repeat.proofs.iter.iter_step.Goals.{in-CommitOk, in-PeekOk}
 
 pub returns-in-PeekErr : goal.returns-in-PeekErr
 returns-in-PeekErr g c =

@@ -1,7 +1,7 @@
 use Rattle.std.proofs.Common.{sym, refl, ◌∙◌}
 use Rattle.combine_repeat.proofs.NextCalls.{gives_block, ends_turns, progress_block}
-use Rattle.combine_repeat.specs.declared.iterate.IterStep.TheVariants.{Over, Fails}
-use Rattle.combine_repeat.proofs.iterate.IterIterator.next.Goals as goal
+use Rattle.combine_repeat.specs.declared.iter.IterStep.TheVariants.{Over, Fails}
+use Rattle.combine_repeat.proofs.iter.IterIterator.next.Goals as goal
 
 pub returns-in-Gives-clause-steps : goal.returns-in-Gives-clause-steps
 returns-in-Gives-clause-steps g c = gives_block _ _ _ _ _ _ _ _ (g.met.P.Parser.laws _ c.requires.lawful) c.requires.valid (sym c.is_running.ensures ∙ c.if-not-is_running.false) (c.in-Gives.ensures) c.set_first.ensures refl refl refl refl
