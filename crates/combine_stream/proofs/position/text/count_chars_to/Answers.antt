@@ -4,7 +4,7 @@ use Rattle.std.proofs.lemmas.Str.{IsUtf8-take}
 use Rattle.std.specs.Str.{chars}
 use Rattle.combine_base.proofs.Streams.FirstCharacter.{few_chars}
 use Rattle.combine_stream.proofs.TextParts.{count_between}
-use Rattle.combine_stream.proofs.position.text.count_on.Goals as goal
+use Rattle.combine_stream.proofs.position.text.count_chars_to.Goals as goal
 
 pub overflow_add-result : goal.overflow_add-result
 overflow_add-result c =
