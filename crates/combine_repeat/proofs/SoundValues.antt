@@ -9,7 +9,7 @@ use Rattle.combine_base.specs.declared.error.result.ParseResult.{ParseResult}
 use Rattle.combine_repeat.specs.Turns.Blocks.{Collecting}
 use Rattle.combine_repeat.specs.Turns.Bounds.{full_at, kept_or}
 use Rattle.combine_repeat.specs.Turns.Turn.{Start, TurnsGive, called}
-use Rattle.combine_repeat.specs.Turns.SoundValues.{KeepsSound, EndsAt, Full, Enough, ByValue, EndsSound, LeavesSound, kept_sound, sound_at, of_value}
+use Rattle.combine_repeat.specs.Turns.SoundValues.{KeepsSound, Full, Enough, ByValue, EndsSound, LeavesSound, kept_sound, sound_at, of_value}
 use Rattle.combine_repeat.specs.Turns.OneTurn.{IsTurnBlock, AreTurnsOver, EndedByValue, EndedByRefusal, turns_halted, stopped_answer, stopped_state}
 use Rattle.combine_repeat.specs.declared.bounds.Bounds.{Bounds}
 use Rattle.combine_repeat.specs.declared.turns.TurnStop.{TurnStop}

@@ -1,14 +1,12 @@
 -- the errors of turns: what the turns that are left are refused with is what the call is refused with
-use Rattle.std.proofs.Common.{ℕ, ◌≡◌, [], ◌∷◌, Bool, true, false, ◌||◌, if◌then◌else◌, refl, sym, subst, ◌∙◌, None}
+use Rattle.std.proofs.Common.{ℕ, ◌≡◌, [], ◌∷◌, Bool, true, false, ◌||◌, if◌then◌else◌, refl, sym, subst, ◌∙◌}
 use Rattle.combine_base.specs.Error.Errors.{Observers}
 use Rattle.combine_base.specs.Parser.Answer.{CallRecord, World}
-use Rattle.combine_base.specs.Parser.DriverAnswers.{IsRefusal}
-use Rattle.combine_base.specs.Parser.Meaning.{Meaning, MeansSame, begun_refuses, MeantRefusal}
+use Rattle.combine_base.specs.Parser.Meaning.{Meaning, MeansSame, begun_refuses}
 use Rattle.combine_base.specs.Parser.Outcome.{Accepted, or_true, or_false}
 use Rattle.combine_base.specs.Parser.Reasons.{ReasonedCall, refused_with}
 use Rattle.combine_base.specs.Sequence.Parts.{accepted_as, refused_as}
 use Rattle.combine_base.specs.Stream.View.{View, advanced}
-use Rattle.combine_base.specs.declared.error.result.ParseResult.TheVariants.{CommitErr, PeekErr}
 use Rattle.combine_base.specs.declared.error.tracked.Tracked.{Tracked}
 use Rattle.combine_repeat.specs.Turns.Bounds.{full_at, is_block_at, judged, kept_or, turn_after, running_turn, so_far, so_far_or, RefusesHere, RefusesOnward, StartsInto, StopRefuses, here_into, turns_from}
 use Rattle.combine_repeat.specs.Turns.OneTurn.{IsTurnBlock, stopped_answer}

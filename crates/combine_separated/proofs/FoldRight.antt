@@ -1,5 +1,5 @@
 -- chains: one operand at least, and operands folded from the right, the last operator first
-use Rattle.std.proofs.Common.{ℕ, zero, suc, ◌-◌, nat_lt, not, ◌≡◌, Bool, true, false, List, [], ◌∷◌, ◌++◌, None, length, refl, arith}
+use Rattle.std.proofs.Common.{ℕ, zero, suc, ◌-◌, nat_lt, not, ◌≡◌, Bool, true, List, [], ◌∷◌, ◌++◌, None, length, refl, arith}
 use Rattle.combine_repeat.specs.Repeat.Repeated.{no_value_ends}
 use Rattle.combine_repeat.specs.Turns.SoundValues.{EndsAt, Full, Enough, ByValue, EndsSound}
 use Rattle.combine_repeat.specs.declared.bounds.Bounds.TheVariants.{OwnFirst}

@@ -1,5 +1,5 @@
 -- how elements are gathered, what elements and separators mean, and the laws of that; a first element, and then turns under the rule of `many`
-use Rattle.std.specs.Prelude.{ℕ, ◌≡◌, Option, None, false, ◌↔◌}
+use Rattle.std.specs.Prelude.{ℕ, Option, None, false, ◌↔◌}
 use Rattle.combine_base.specs.Error.Errors.{Observers}
 use Rattle.combine_base.specs.Parser.Meaning.{Meaning, IsMeaning, MeansOne, MeansSame}
 use Rattle.combine_separated.specs.Pair.{pair, led_is_meaning, led_means_one, led_valid, pair_is_meaning, pair_means_one, pair_means_same}
