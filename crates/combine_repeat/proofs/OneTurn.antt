@@ -1,5 +1,5 @@
 -- what one turn answers: whether it is a block, and a peeked refusal that is put back, or could not be
-use Rattle.std.proofs.Common.{ℕ, ◌+◌, ◌<◌, ◌≤◌, ◌≡◌, arith, Bool, true, false, ◌||◌, ap, refl, sym, ◌∙◌}
+use Rattle.std.proofs.Common.{ℕ, ◌+◌, ◌<◌, ◌≤◌, ◌≡◌, arith, Bool, true, false, ◌||◌, if◌then◌else◌, Option, Some, None, ap, refl, sym, ◌∙◌}
 use Rattle.combine_base.specs.Stream.View.{View, Takes, Moves}
 use Rattle.combine_base.specs.Parser.Outcome.{Outcome, Refused}
 use Rattle.combine_base.specs.Parser.Meaning.{Meaning, MeansSame, begun}
@@ -15,9 +15,10 @@ use Rattle.combine_base.specs.declared.error.result.ParseResult.{ParseResult}
 use Rattle.combine_base.specs.declared.error.result.ParseResult.TheVariants.{CommitErr, PeekErr}
 use Rattle.combine_repeat.specs.Turns.Blocks.{Collecting}
 use Rattle.combine_repeat.specs.Turns.Turn.{Start, TurnsSame, called}
-use Rattle.combine_repeat.specs.Turns.Bounds.{cut_at, is_block_at, count_bound, turn_after, so_far}
+use Rattle.combine_repeat.specs.Turns.Bounds.{cut_at, is_block_at, lack_by, next_at, turn_after, so_far}
 use Rattle.combine_repeat.specs.Turns.OneTurn.{IsGathered, JudgesTurn, TurnDid, AreTurnsOver, EndedByValue, EndedByRefusal, TurnNeedsMore, HasTurnFailed, InTurn, TakesNothing, ValueUnstored, Untold, Unreset, turns_halted, CallEndedAt, then_left}
 use Rattle.combine_repeat.specs.declared.bounds.Bounds.{Bounds}
+use Rattle.combine_repeat.specs.declared.bounds.Lack.TheVariants as lack
 use Rattle.combine_repeat.specs.declared.bounds.TurnIndex.{TurnIndex}
 use Rattle.combine_repeat.specs.declared.turns.TurnStep.{TurnStep}
 use Rattle.combine_repeat.specs.declared.turns.TurnStep.TheVariants as steps
@@ -36,10 +37,6 @@ module _ {P T R E A S : Type 0} where
 pub called_same : {P T R E A S : Type 0} (m : Meaning P T R E A S) (again : Start P T E A) (m' : Meaning P T R E A S) (again' : Start P T E A) → TurnsSame m again m' again' → (later : Bool) → MeansSame (called m again later) (called m' again' later)
 called_same m again m' again' h true = let x = h.meaning in record { whole = h.later.reads; rest = x.rest; lost = x.lost; keeps = x.keeps; puts_back = x.puts_back; heapless = x.heapless; adds = x.adds; refuses = h.later.refuses; refuses_from = x.refuses_from }
 called_same m again m' again' h false = let x = h.meaning in record { whole = x.whole; rest = x.rest; lost = x.lost; keeps = x.keeps; puts_back = x.puts_back; heapless = x.heapless; adds = x.adds; refuses = x.refuses; refuses_from = x.refuses_from }
-
-module _ {P T R A S E : Type 0} {w : World P T S E} {b : Bounds} {ending : A → Bool} {m : Meaning P T R E A S} where
-  pub judged_by : {r : CallRecord P T S} {index : TurnIndex} {x : A × Bool} {a : A} {k goes i : Bool} → x ≡ (a, k) → Accepts w m r a k → ending x.0 ≡ false → ((n : ℕ) → Takes w.step n r.old r.new → goes ≡ is_block_at b index n x.1) → goes ≡ i → JudgesTurn w b ending m r index x i
-  judged_by {r} {x} e p o s j = let q : Accepts w m r x.0 x.1 = rw e p in record { accepts = q; on = o; says = sym j ∙ s q.count q.taken }
 
 module _ {P T R A S E : Type 0} {w : World P T S E} {m : Meaning P T R E A S} where
   pub accepts_by : {r : CallRecord P T S} {x : A × Bool} {a : A} {k : Bool} → x ≡ (a, k) → Accepts w m r a k → Accepts w m r x.0 x.1
@@ -74,8 +71,50 @@ module _ {P T R A V S E : Type 0} (w : World P T S E) (b : Bounds) (ending : A �
       Unreset (q ∙ h.0) (omega arith) (record { count = y.count + x.count; taken = takes_more w.step y.count x.count old now new y.taken x.taken; state = y.state })
 
 -- a turn that is gathered, and what the next one begins with
-pub gathered_on : {A V Held : Type 0} (held : V → Held) (more : Held → A → Held → Type 0) (b : Bounds) (old joined new : TurnProgress V) (value : A) (most : ℕ) (k : Bool) → IsGathered held more joined value most new → joined ≡ record { into = old.into; committed = old.committed || k; index = old.index } → most ≡ count_bound b → more (held old.into) value (held new.into) × (so_far held new ≡ record { mark = turn_after b old.index; held = held new.into; committed = old.committed || k })
-gathered_on held more b old joined new value most k g e l = let h = rw (e, l) at g in (h.more_held, rw (h.index, h.committed) refl)
+pub gathered_on : {A V Held : Type 0} (held : V → Held) (more : Held → A → Held → Type 0) (b : Bounds) (old joined new : TurnProgress V) (value : A) (next : TurnIndex) (k : Bool) → IsGathered held more joined value next new → joined ≡ record { into = old.into; committed = old.committed || k; index = old.index } → next ≡ turn_after b old.index → more (held old.into) value (held new.into) × (so_far held new ≡ record { mark = turn_after b old.index; held = held new.into; committed = old.committed || k })
+gathered_on held more b old joined new value next k g e l = let h = rw (e, l) at g in (h.more_held, rw (h.index, h.committed) refl)
+
+-- what bounds said of a refused turn, and of an accepted one
+pub lacks_nothing : (e o : Bool) (n : ℕ) → lack_by e o n ≡ lack.Nothing → e ≡ true
+lacks_nothing true o n i = refl
+lacks_nothing false true n i = absurd (cc)
+lacks_nothing false false n i = absurd (cc)
+
+pub lacks_first : (e o : Bool) (n : ℕ) → lack_by e o n ≡ lack.First → (e ≡ false) × (o ≡ true)
+lacks_first true o n i = absurd (cc)
+lacks_first false true n i = (refl, refl)
+lacks_first false false n i = absurd (cc)
+
+pub lacks_turns : (e o : Bool) (n m : ℕ) → lack_by e o n ≡ lack.Turns m → (e ≡ false) × (o ≡ false) × (m ≡ n)
+lacks_turns true o n m i = absurd (cc)
+lacks_turns false true n m i = absurd (cc)
+lacks_turns false false n m i = (refl, refl, cc)
+
+pub no_value_then : {A : Type 0} (o : Option A) → ((a : A) → o ≡ Some a → ⊥) → o ≡ None
+no_value_then None h = refl
+no_value_then (Some a) h = absurd (h a refl)
+
+some_next : (goes : Bool) (next g : TurnIndex) → (if goes then Some next else None) ≡ Some g → (goes ≡ true) × (g ≡ next)
+some_next true next g i = (refl, cc)
+some_next false next g i = absurd (cc)
+
+none_next : (goes : Bool) (next : TurnIndex) → (if goes then Some next else None) ≡ None → goes ≡ false
+none_next true next i = absurd (cc)
+none_next false next i = refl
+
+module _ {P T R A S E : Type 0} {w : World P T S E} {b : Bounds} {ending : A → Bool} {m : Meaning P T R E A S} {r : CallRecord P T S} {index : TurnIndex} {x : A × Bool} {a : A} {k : Bool} (e : x ≡ (a, k)) (p : Accepts w m r a k) (o : ending x.0 ≡ false) {next : Option TurnIndex} (h : (n : ℕ) → Takes w.step n r.old r.new → next ≡ next_at b index n x.1) where
+  -- the turn is a block, and that is the place of the next one
+  pub goes_by : (g : TurnIndex) → next ≡ Some g → JudgesTurn w b ending m r index x true × (g ≡ turn_after b index)
+  goes_by g i =
+      let q : Accepts w m r x.0 x.1 = rw e p in
+      let z = some_next (is_block_at b index q.count x.1) (turn_after b index) g (sym (h q.count q.taken) ∙ i) in
+      (record { accepts = q; on = o; says = sym z.0 }, z.1)
+
+  -- the turn takes nothing
+  pub idle_by : next ≡ None → JudgesTurn w b ending m r index x false
+  idle_by i =
+      let q : Accepts w m r x.0 x.1 = rw e p in
+      record { accepts = q; on = o; says = sym (none_next (is_block_at b index q.count x.1) (turn_after b index) (sym (h q.count q.taken) ∙ i)) }
 
 -- what a turn of one parser did is what it did of another that means the same
 module _ {P T R A S E : Type 0} (w : World P T S E) (b : Bounds) (ending : A → Bool) (m m' : Meaning P T R E A S) (h : MeansSame m m') (r : CallRecord P T S) where

@@ -1,7 +1,7 @@
 //! How many turns there are: a type for each kind of bounds, so that what some turns don't need isn't compiled with them.
 ghost use Rattle.std.specs.Prelude.{◌≡◌, ◌-◌, ℕ, false, nat_lt, not};
 ghost use Rattle.combine_base.specs.Stream.View.{View, Takes};
-ghost use Rattle.combine_repeat.specs.Turns.Bounds.{counted_bounds, counted_to, cut_at, is_enough, is_first_or_takes_token, own_first_bounds, takes_token};
+ghost use Rattle.combine_repeat.specs.Turns.Bounds.{counted_bounds, counted_to, cut_at, first_lack, is_first_or_takes_token, own_first_bounds, takes_token};
 
 use combine_base::stream::{Stream, has_taken};
 
@@ -43,14 +43,6 @@ impl TurnIndex {
         !(self.number < max)
     }
 
-    /// Returns how many of `min` turns are missing before it.
-    #[inline(always)]
-    pub(crate) fn short_of(self, min: usize) -> usize
-        ensures { result ≡ min - self.number }
-    {
-        min.saturating_sub(self.number)
-    }
-
     /// Returns the place of the next turn.
     #[inline(always)]
     pub(crate) fn next(self, count_bound: usize) -> TurnIndex
@@ -80,19 +72,25 @@ impl TurnIndex {
     }
 }
 
+/// What is missing where a turn is refused peeked.
+pub enum Lack {
+    /// Nothing: there are enough turns.
+    Nothing,
+    /// The first turn, which is a part of its own: its refusal is the result.
+    First,
+    /// So many turns.
+    Turns(usize),
+}
+
 /// How many turns there are.
 pub trait TurnBounds: Copy {
-    ghost use Rattle.std.specs.Prelude.{◌≡◌, ◌≤◌, ℕ, false};
+    ghost use Rattle.std.specs.Prelude.{◌≡◌, ◌≤◌, ℕ, false, Option};
     ghost use Rattle.combine_base.specs.Stream.View.{View, Takes};
-    ghost use Rattle.combine_repeat.specs.Turns.Bounds.{count_bound, full_at, is_block_at, is_unbounded, keeps_refusal, missing_turns};
+    ghost use Rattle.combine_repeat.specs.Turns.Bounds.{full_at, is_unbounded, lack_at, next_at};
     ghost use Rattle.combine_repeat.specs.declared.bounds.Bounds.{Bounds};
 
     /// What they are.
     ghost bounds: { Self → Bounds };
-
-    /// Returns how far turns are counted.
-    fn count_bound(self) -> usize
-        ensures { result ≡ count_bound (bounds self) };
 
     /// Returns whether there may be any number of turns.
     fn is_unbounded(self) -> bool
@@ -107,32 +105,19 @@ pub trait TurnBounds: Copy {
     fn is_full(self, index: TurnIndex) -> bool
         ensures { result ≡ full_at (bounds self) index };
 
-    /// Returns how many turns are still missing.
-    fn missing(self, index: TurnIndex) -> usize
-        ensures { result ≡ missing_turns (bounds self) index };
+    /// Returns what is missing where this turn is refused peeked.
+    fn lacks(self, index: TurnIndex) -> Lack
+        ensures { result ≡ lack_at (bounds self) index };
 
-    /// Returns whether a refusal of this turn is its own result.
-    fn keeps_refusal(self, index: TurnIndex) -> bool
-        ensures { result ≡ keeps_refusal (bounds self) index };
-
-    /// Returns whether an accepted turn counts: `since` is where its part in this piece began, `committed` how it was accepted.
-    fn accepts_turn<Input: Stream>(
+    /// Returns the place of the turn after an accepted one, or `None` where that has to take a token and took none: `since` is where its part in this piece began, `committed` how it was accepted.
+    fn next<Input: Stream>(
         self,
         index: TurnIndex,
         committed: bool,
         since: Input::Checkpoint,
         input: &Input,
-    ) -> bool
-        ensures { (n : ℕ) (v : View Input.Position Input.Token) → Input.stands input.now since v → Takes Input.step n v (Input.view input.now) → result ≡ is_block_at (bounds self) index n committed };
-}
-
-/// Returns whether no turn is missing.
-#[inline(always)]
-pub fn is_enough<B: TurnBounds>(bounds: B, index: TurnIndex) -> bool
-    ensures { result ≡ is_enough (B.bounds bounds) index }
-{
-    let missing = bounds.missing(index);
-    !(0 < missing)
+    ) -> Option<TurnIndex>
+        ensures { (n : ℕ) (v : View Input.Position Input.Token) → Input.stands input.now since v → Takes Input.step n v (Input.view input.now) → result ≡ next_at (bounds self) index n committed };
 }
 
 /// Any number of turns, each of which takes a token.
@@ -143,11 +128,6 @@ impl TurnBounds for ZeroOrMore {
     ghost use Rattle.combine_repeat.specs.declared.bounds.Bounds.TheVariants.{Unbounded};
 
     ghost bounds = { λ _. Unbounded };
-
-    #[inline(always)]
-    fn count_bound(self) -> usize {
-        0
-    }
 
     #[inline(always)]
     fn is_unbounded(self) -> bool {
@@ -165,24 +145,22 @@ impl TurnBounds for ZeroOrMore {
     }
 
     #[inline(always)]
-    fn missing(self, index: TurnIndex) -> usize {
-        0
+    fn lacks(self, index: TurnIndex) -> Lack {
+        Lack::Nothing
     }
 
     #[inline(always)]
-    fn keeps_refusal(self, index: TurnIndex) -> bool {
-        false
-    }
-
-    #[inline(always)]
-    fn accepts_turn<Input: Stream>(
+    fn next<Input: Stream>(
         self,
         index: TurnIndex,
         committed: bool,
         since: Input::Checkpoint,
         input: &Input,
-    ) -> bool {
-        takes_token(index, committed, since, input)
+    ) -> Option<TurnIndex> {
+        if takes_token(index, committed, since, input) {
+            return Some(TurnIndex::first());
+        }
+        None
     }
 }
 
@@ -215,6 +193,20 @@ fn is_first_or_takes_token<Input: Stream>(
     takes_token(index, committed, since, input)
 }
 
+/// Returns what is missing of so many turns, of which the first is a part of its own.
+#[inline(always)]
+fn first_lacks(index: TurnIndex, min: usize) -> Lack
+    ensures { result ≡ first_lack min index }
+{
+    if !(index.number < min) {
+        return Lack::Nothing;
+    }
+    if 0 < index.number {
+        return Lack::Turns(min - index.number);
+    }
+    Lack::First
+}
+
 /// At least `MIN` turns, of which the first is a part of its own.
 ///
 /// That one may take nothing, and its refusal is the result unless there need be none. Each later one takes a token.
@@ -226,11 +218,6 @@ impl<const MIN: usize> TurnBounds for FirstThenMore<MIN> {
     ghost use Rattle.combine_repeat.specs.declared.bounds.Bounds.TheVariants.{OwnFirst};
 
     ghost bounds = { λ _. OwnFirst MIN None };
-
-    #[inline(always)]
-    fn count_bound(self) -> usize {
-        if MIN < 1 { 1 } else { MIN }
-    }
 
     #[inline(always)]
     fn is_unbounded(self) -> bool {
@@ -248,24 +235,22 @@ impl<const MIN: usize> TurnBounds for FirstThenMore<MIN> {
     }
 
     #[inline(always)]
-    fn missing(self, index: TurnIndex) -> usize {
-        index.short_of(MIN)
+    fn lacks(self, index: TurnIndex) -> Lack {
+        first_lacks(index, MIN)
     }
 
     #[inline(always)]
-    fn keeps_refusal(self, index: TurnIndex) -> bool {
-        index.number < 1
-    }
-
-    #[inline(always)]
-    fn accepts_turn<Input: Stream>(
+    fn next<Input: Stream>(
         self,
         index: TurnIndex,
         committed: bool,
         since: Input::Checkpoint,
         input: &Input,
-    ) -> bool {
-        is_first_or_takes_token(index, committed, since, input)
+    ) -> Option<TurnIndex> {
+        if is_first_or_takes_token(index, committed, since, input) {
+            return Some(index.next(if MIN < 1 { 1 } else { MIN }));
+        }
+        None
     }
 }
 
@@ -280,11 +265,6 @@ pub struct FirstThenUpTo {
 
 impl TurnBounds for FirstThenUpTo {
     ghost bounds = { own_first_bounds };
-
-    #[inline(always)]
-    fn count_bound(self) -> usize {
-        self.max
-    }
 
     #[inline(always)]
     fn is_unbounded(self) -> bool {
@@ -302,24 +282,22 @@ impl TurnBounds for FirstThenUpTo {
     }
 
     #[inline(always)]
-    fn missing(self, index: TurnIndex) -> usize {
-        index.short_of(self.min)
+    fn lacks(self, index: TurnIndex) -> Lack {
+        first_lacks(index, self.min)
     }
 
     #[inline(always)]
-    fn keeps_refusal(self, index: TurnIndex) -> bool {
-        index.number < 1
-    }
-
-    #[inline(always)]
-    fn accepts_turn<Input: Stream>(
+    fn next<Input: Stream>(
         self,
         index: TurnIndex,
         committed: bool,
         since: Input::Checkpoint,
         input: &Input,
-    ) -> bool {
-        is_first_or_takes_token(index, committed, since, input)
+    ) -> Option<TurnIndex> {
+        if is_first_or_takes_token(index, committed, since, input) {
+            return Some(index.next(self.max));
+        }
+        None
     }
 }
 
@@ -334,11 +312,6 @@ pub struct MinToMax {
 
 impl TurnBounds for MinToMax {
     ghost bounds = { counted_bounds };
-
-    #[inline(always)]
-    fn count_bound(self) -> usize {
-        self.max
-    }
 
     #[inline(always)]
     fn is_unbounded(self) -> bool {
@@ -360,23 +333,21 @@ impl TurnBounds for MinToMax {
     }
 
     #[inline(always)]
-    fn missing(self, index: TurnIndex) -> usize {
-        index.short_of(self.min)
+    fn lacks(self, index: TurnIndex) -> Lack {
+        if index.number < self.min {
+            return Lack::Turns(self.min - index.number);
+        }
+        Lack::Nothing
     }
 
     #[inline(always)]
-    fn keeps_refusal(self, index: TurnIndex) -> bool {
-        false
-    }
-
-    #[inline(always)]
-    fn accepts_turn<Input: Stream>(
+    fn next<Input: Stream>(
         self,
         index: TurnIndex,
         committed: bool,
         since: Input::Checkpoint,
         input: &Input,
-    ) -> bool {
-        true
+    ) -> Option<TurnIndex> {
+        Some(index.next(self.max))
     }
 }

@@ -16,7 +16,7 @@ ghost use Rattle.combine_repeat.specs.Turns.TurnCalls.{HaltsCall, OneTurnCall, T
 
 mod entry;
 
-use crate::bounds::{TurnBounds, TurnIndex, is_enough};
+use crate::bounds::{Lack, TurnBounds, TurnIndex};
 use combine_base::error::{Info, ParseError, ParseResult, Tracked, accepted_after, refused_after};
 use combine_base::parser::{ParseMode, Parser};
 use combine_base::refusal::refusal_saying;
@@ -321,20 +321,20 @@ fn too_few<Input: Stream>(
 fn gather_turn<A, G: Gather<A>>(
     turns: TurnProgress<G::Collection>,
     value: A,
-    count_bound: usize,
+    next: TurnIndex,
 ) -> Result<TurnProgress<G::Collection>, AllocError>
     requires { G.able value }
-    ensures { MatchResult result (λ n. IsGathered G.held G.more turns value count_bound n) (λ _. G.heapless → ⊥) }
+    ensures { MatchResult result (λ n. IsGathered G.held G.more turns value next n) (λ _. G.heapless → ⊥) }
 {
     let TurnProgress {
         into,
         committed,
-        index,
+        index: _,
     } = turns;
     Ok(TurnProgress {
         into: G::gather(into, value)?,
         committed,
-        index: index.next(count_bound),
+        index: next,
     })
 }
 
@@ -352,21 +352,22 @@ fn judge_refusal<G: Gather<P::Value>, Input: Stream, P: TurnParser<Input>, B: Tu
     ensures halted { (p : P) (later : Bool) → HaltsCall Input.StreamOnce Input.Error.observers P.Running.is_default (B.bounds bounds) P.ending (gathered G.held G.none G.more G.heapless) (called (P.meaning p) (P.again p) later) (Input.stands input.old since) input.old input.new refusal turns result }
     ensures refuses { (p : P) (later : Bool) → JudgesRefusal Input.step Input.Error.observers (B.bounds bounds) P.ending (called (P.meaning p) (P.again p) later) turns position refusal.error (Input.view input.old) (Input.view input.new) result }
 {
-    if is_enough(bounds, turns.index) {
-        if let Err(kind) = input.reset(since) {
-            return TurnStop::Failed(input.new_error(kind, position));
+    match bounds.lacks(turns.index) {
+        Lack::Nothing => {
+            if let Err(kind) = input.reset(since) {
+                return TurnStop::Failed(input.new_error(kind, position));
+            }
+            TurnStop::Over(turns)
         }
-        return TurnStop::Over(turns);
+        Lack::First => TurnStop::Refused(turns, refusal),
+        Lack::Turns(missing) => {
+            let error = too_few(input, position, refusal.error.kind(), missing);
+            if error.kind() == Kind::Memory {
+                return TurnStop::Failed(error);
+            }
+            TurnStop::Refused(turns, Tracked::from(error))
+        }
     }
-    if bounds.keeps_refusal(turns.index) {
-        return TurnStop::Refused(turns, refusal);
-    }
-    let missing = bounds.missing(turns.index);
-    let error = too_few(input, position, refusal.error.kind(), missing);
-    if error.kind() == Kind::Memory {
-        return TurnStop::Failed(error);
-    }
-    TurnStop::Refused(turns, Tracked::from(error))
 }
 
 /// Runs one turn as `entry` calls it, and gathers its value where it is a block.
@@ -410,11 +411,11 @@ fn one_turn<G: Gather<P::Value>, Input: Stream, P: TurnParser<Input>, B: TurnBou
     if P::is_last(&value) {
         return TurnStep::Stops(TurnStop::Over(turns.or_committed(committed)));
     }
-    if !bounds.accepts_turn(turns.index, committed, since, input) {
+    let Some(next) = bounds.next(turns.index, committed, since, input) else {
         let error = refusal_saying(input, position, "repetition takes nothing");
         return TurnStep::Stops(TurnStop::Failed(error));
-    }
-    match gather_turn::<P::Value, G>(turns.or_committed(committed), value, bounds.count_bound()) {
+    };
+    match gather_turn::<P::Value, G>(turns.or_committed(committed), value, next) {
         Ok(turns) => TurnStep::Goes(turns),
         Err(_refused) => TurnStep::Stops(TurnStop::Failed(input.new_error(Kind::Memory, position))),
     }

@@ -1,9 +1,11 @@
 -- turns of which there are at least and at most so many: their rule, the errors of their refusals, what they mean, and their laws
-use Rattle.std.specs.Prelude.{ℕ, ◌≡◌, ◌+◌, ◌-◌, Bool, true, false, ◌||◌, ◌&&◌, not, nat_lt, if◌then◌else◌, Some, None, List, [], ◌∷◌, codes, ◌<◌, ◌⊎◌, refl, ◌↔◌}
+use Rattle.std.specs.Prelude.{ℕ, ◌≡◌, ◌+◌, ◌-◌, Bool, true, false, ◌||◌, ◌&&◌, not, nat_lt, if◌then◌else◌, Option, Some, None, List, [], ◌∷◌, codes, ◌<◌, ◌⊎◌, refl, ◌↔◌}
 use Rattle.combine_base.specs.Parser.Outcome.{Outcome, Accepted, Refused, Undecided, after, shape, IsDecided, IsCommitted}
 use Rattle.combine_repeat.specs.Turns.Blocks.{Verdict, TakesBlock, StopsTurns, Rule, Collecting, TurnsSoFar, Block, outcome, TurnsOutcome, IsRule, IsJudgedOnce, turned_is_reading, turned_is_single, turned_into}
 use Rattle.combine_repeat.specs.declared.bounds.Bounds.{Bounds}
 use Rattle.combine_repeat.specs.declared.bounds.Bounds.TheVariants.{Unbounded, OwnFirst, Counted}
+use Rattle.combine_repeat.specs.declared.bounds.Lack.{Lack}
+use Rattle.combine_repeat.specs.declared.bounds.Lack.TheVariants as lack
 use Rattle.combine_repeat.specs.declared.bounds.TurnIndex.{TurnIndex}
 use Rattle.combine_repeat.specs.declared.bounds.FirstThenUpTo.{FirstThenUpTo}
 use Rattle.combine_repeat.specs.declared.bounds.MinToMax.{MinToMax}
@@ -104,11 +106,28 @@ judged b ending g (Accepted a n k) = accepted_at n k (ending a) (is_block_at b g
 judged b ending g (Refused k) = refused_at (is_enough b g) k
 judged b ending g Undecided = StopsTurns Undecided
 
+-- what is missing where a turn is refused peeked
+abbrev pub lack_by : Bool → Bool → ℕ → Lack
+lack_by true owned n = lack.Nothing
+lack_by false true n = lack.First
+lack_by false false n = lack.Turns n
+
+abbrev pub lack_at : Bounds → TurnIndex → Lack
+lack_at b g = lack_by (is_enough b g) (keeps_refusal b g) (missing_turns b g)
+
+-- of so many turns, of which the first is a part of its own
+abbrev pub first_lack : ℕ → TurnIndex → Lack
+first_lack least g = lack_by (not (nat_lt 0 (least - g.number))) (nat_lt g.number 1) (least - g.number)
+
 abbrev pub cut_at : TurnIndex → ℕ → TurnIndex
 cut_at g n = record { number = g.number; took_before = g.took_before || nat_lt 0 n }
 
 abbrev pub turn_after : Bounds → TurnIndex → TurnIndex
 turn_after b g = record { number = counted_to (count_bound b) g.number; took_before = false }
+
+-- the place of the turn behind an accepted one, if that is a block
+abbrev pub next_at : Bounds → TurnIndex → ℕ → Bool → Option TurnIndex
+next_at b g n k = if is_block_at b g n k then Some (turn_after b g) else None
 
 abbrev pub bounded : {A : Type 0} → Bounds → (A → Bool) → Rule A TurnIndex
 bounded b ending = record { full = full_at b; judge = judged b ending; next = turn_after b; cut = cut_at }

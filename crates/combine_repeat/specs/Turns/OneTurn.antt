@@ -6,7 +6,7 @@ use Rattle.combine_base.specs.Parser.Answer.{CallRecord, World, Answers, Accepts
 use Rattle.combine_base.specs.Sequence.Parts.{accepted_as, refused_as}
 use Rattle.combine_base.specs.Refusals.{IsRefusalOrMemory}
 use Rattle.combine_repeat.specs.Turns.Blocks.{Collecting}
-use Rattle.combine_repeat.specs.Turns.Bounds.{counted_to, is_enough, is_block_at, cut_at, turn_after, so_far}
+use Rattle.combine_repeat.specs.Turns.Bounds.{is_enough, is_block_at, cut_at, turn_after, so_far}
 use Rattle.combine_base.specs.declared.stream.Failures.{Failures}
 use Rattle.combine_base.specs.declared.stream.Kind.TheVariants as kinds
 use Rattle.combine_base.specs.declared.error.tracked.Tracked.{Tracked}
@@ -96,10 +96,10 @@ abbrev pub then_left : {P T S : Type 0} → CallRecord P T S → View P T → Fa
 then_left r now after = record { first = r.first; state = r.state; left = r.left; old = r.old; new = now; before = r.before; after = after }
 
 -- turns with one more value gathered, of which the next one runs
-pub record IsGathered {A V Held : Type 0} (held : V → Held) (more : Held → A → Held → Type 0) (old : TurnProgress V) (value : A) (most : ℕ) (new : TurnProgress V) : Type 0 where
+pub record IsGathered {A V Held : Type 0} (held : V → Held) (more : Held → A → Held → Type 0) (old : TurnProgress V) (value : A) (next : TurnIndex) (new : TurnProgress V) : Type 0 where
   pub more_held : more (held old.into) value (held new.into)
   pub committed : new.committed ≡ old.committed
-  pub index : new.index ≡ record { number = counted_to most old.index.number; took_before = false }
+  pub index : new.index ≡ next
 
 -- what turns answer that stop so
 abbrev pub stopped_answer : {V E : Type 0} → TurnStop V E → ParseResult V E

@@ -2,7 +2,7 @@ use Rattle.std.proofs.Common.{false, true, refl, sym, ◌∙◌}
 use Rattle.combine_base.proofs.Errors.MeantRefusals.{reasoned_meant}
 use Rattle.combine_repeat.specs.Turns.OneTurn.{EndedByValue, TakesNothing, ValueUnstored}
 use Rattle.combine_repeat.specs.Turns.Bounds.{Idle, Own}
-use Rattle.combine_repeat.proofs.OneTurn.{judged_by, accepts_by, gathered_on, needs_on}
+use Rattle.combine_repeat.proofs.OneTurn.{accepts_by, gathered_on, goes_by, idle_by, needs_on, no_value_then}
 use Rattle.combine_repeat.proofs.SoundValues.{turn_able}
 use Rattle.combine_repeat.proofs.turns.one_turn.Goals as goal
 use Rattle.combine_repeat.proofs.turns.one_turn.Goals.{in-CommitOk, in-PeekOk}
@@ -26,13 +26,13 @@ returns-then-is_last-clause-turned g c =
       | in-PeekOk w ↦ record { is = EndedByValue c.match-enter.value (accepts_by w.value-is w.in-PeekOk.ensures.answers.is) (sym c.is_last.ensures ∙ c.if-is_last.true) c.or_committed.ensures }
     ]
 
-pub returns-then-not-accepts_turn-clause-turned : goal.returns-then-not-accepts_turn-clause-turned
-returns-then-not-accepts_turn-clause-turned g c =
+pub returns-in_default-clause-turned : goal.returns-in_default-clause-turned
+returns-in_default-clause-turned g c =
     let since = g.met.Input.ResetStream.lasts _ _ _ _ c.enter.ensures.passes.marks c.checkpoint-since.ensures.stands in
     let on = sym c.is_last.ensures ∙ c.if-is_last.false in
     elim c.match-enter.branch [
-      | in-CommitOk w ↦ record { is = TakesNothing _ (judged_by w.value-is w.in-CommitOk.ensures.answers.is on (λ i t. c.accepts_turn.ensures i _ since t) c.if-not-accepts_turn.true) c.refusal_saying-error.ensures.told }
-      | in-PeekOk w ↦ record { is = TakesNothing _ (judged_by w.value-is w.in-PeekOk.ensures.answers.is on (λ i t. c.accepts_turn.ensures i _ since t) c.if-not-accepts_turn.true) c.refusal_saying-error.ensures.told }
+      | in-CommitOk w ↦ record { is = TakesNothing _ (idle_by {b = g.B.TurnBounds.bounds c.args.bounds} {ending = g.P.TurnParser.ending} {index = c.args.turns.index} w.value-is w.in-CommitOk.ensures.answers.is on (λ i t. c.next.ensures i _ since t) (no_value_then _ c.in_default.not-Some)) c.refusal_saying-error.ensures.told }
+      | in-PeekOk w ↦ record { is = TakesNothing _ (idle_by {b = g.B.TurnBounds.bounds c.args.bounds} {ending = g.P.TurnParser.ending} {index = c.args.turns.index} w.value-is w.in-PeekOk.ensures.answers.is on (λ i t. c.next.ensures i _ since t) (no_value_then _ c.in_default.not-Some)) c.refusal_saying-error.ensures.told }
     ]
 
 pub gather_turn-requires : goal.gather_turn-requires
@@ -47,10 +47,15 @@ pub returns-in-Ok-clause-turned : goal.returns-in-Ok-clause-turned
 returns-in-Ok-clause-turned g c =
     let since = g.met.Input.ResetStream.lasts _ _ _ _ c.enter.ensures.passes.marks c.checkpoint-since.ensures.stands in
     let on = sym c.is_last.ensures ∙ c.if-is_last.false in
-    let more = gathered_on g.G.Gather.held g.G.Gather.more (g.B.TurnBounds.bounds c.args.bounds) c.args.turns _ _ _ _ c.match-enter.value.1 c.in-Ok.ensures c.or_committed-2.ensures c.count_bound.ensures in
     elim c.match-enter.branch [
-      | in-CommitOk w ↦ record { is = record { turn = _; judged = judged_by w.value-is w.in-CommitOk.ensures.answers.is on (λ i t. c.accepts_turn.ensures i _ since t) c.if-not-accepts_turn.false; held = _; more = more.0; turns = more.1 } }
-      | in-PeekOk w ↦ record { is = record { turn = _; judged = judged_by w.value-is w.in-PeekOk.ensures.answers.is on (λ i t. c.accepts_turn.ensures i _ since t) c.if-not-accepts_turn.false; held = _; more = more.0; turns = more.1 } }
+      | in-CommitOk w ↦
+          let j = (goes_by {b = g.B.TurnBounds.bounds c.args.bounds} {ending = g.P.TurnParser.ending} {index = c.args.turns.index} w.value-is w.in-CommitOk.ensures.answers.is on (λ i t. c.next.ensures i _ since t) c.in-Some.next c.in-Some.is) in
+          let more = gathered_on g.G.Gather.held g.G.Gather.more (g.B.TurnBounds.bounds c.args.bounds) c.args.turns _ _ _ _ c.match-enter.value.1 c.in-Ok.ensures c.or_committed-2.ensures j.1 in
+          record { is = record { turn = _; judged = j.0; held = _; more = more.0; turns = more.1 } }
+      | in-PeekOk w ↦
+          let j = (goes_by {b = g.B.TurnBounds.bounds c.args.bounds} {ending = g.P.TurnParser.ending} {index = c.args.turns.index} w.value-is w.in-PeekOk.ensures.answers.is on (λ i t. c.next.ensures i _ since t) c.in-Some.next c.in-Some.is) in
+          let more = gathered_on g.G.Gather.held g.G.Gather.more (g.B.TurnBounds.bounds c.args.bounds) c.args.turns _ _ _ _ c.match-enter.value.1 c.in-Ok.ensures c.or_committed-2.ensures j.1 in
+          record { is = record { turn = _; judged = j.0; held = _; more = more.0; turns = more.1 } }
     ]
 
 pub returns-in-Err-clause-turned : goal.returns-in-Err-clause-turned
@@ -60,14 +65,14 @@ returns-in-Err-clause-turned g c =
       | in-PeekOk w ↦ record { is = ValueUnstored _ (accepts_by w.value-is w.in-PeekOk.ensures.answers.is) c.new_error.ensures.kind c.in-Err.ensures }
     ]
 
-pub returns-then-not-accepts_turn-clause-refuses : goal.returns-then-not-accepts_turn-clause-refuses
-returns-then-not-accepts_turn-clause-refuses g c =
+pub returns-in_default-clause-refuses : goal.returns-in_default-clause-refuses
+returns-in_default-clause-refuses g c =
     let since = g.met.Input.ResetStream.lasts _ _ _ _ c.enter.ensures.passes.marks c.checkpoint-since.ensures.stands in
     let on = sym c.is_last.ensures ∙ c.if-is_last.false in
     let said = rw c.position-position.ensures at c.refusal_saying-error.ensures.says in
     elim c.match-enter.branch [
-      | in-CommitOk w ↦ let j = judged_by {b = g.B.TurnBounds.bounds c.args.bounds} {ending = g.P.TurnParser.ending} {index = c.args.turns.index} w.value-is w.in-CommitOk.ensures.answers.is on (λ i t. c.accepts_turn.ensures i _ since t) c.if-not-accepts_turn.true in record { is = record { is = λ i. Idle refl _ j.accepts.count _ j.accepts.meant j.on (sym j.says) said } }
-      | in-PeekOk w ↦ let j = judged_by {b = g.B.TurnBounds.bounds c.args.bounds} {ending = g.P.TurnParser.ending} {index = c.args.turns.index} w.value-is w.in-PeekOk.ensures.answers.is on (λ i t. c.accepts_turn.ensures i _ since t) c.if-not-accepts_turn.true in record { is = record { is = λ i. Idle refl _ j.accepts.count _ j.accepts.meant j.on (sym j.says) said } }
+      | in-CommitOk w ↦ let j = (idle_by {b = g.B.TurnBounds.bounds c.args.bounds} {ending = g.P.TurnParser.ending} {index = c.args.turns.index} w.value-is w.in-CommitOk.ensures.answers.is on (λ i t. c.next.ensures i _ since t) (no_value_then _ c.in_default.not-Some)) in record { is = record { is = λ i. Idle refl _ j.accepts.count _ j.accepts.meant j.on (sym j.says) said } }
+      | in-PeekOk w ↦ let j = (idle_by {b = g.B.TurnBounds.bounds c.args.bounds} {ending = g.P.TurnParser.ending} {index = c.args.turns.index} w.value-is w.in-PeekOk.ensures.answers.is on (λ i t. c.next.ensures i _ since t) (no_value_then _ c.in_default.not-Some)) in record { is = record { is = λ i. Idle refl _ j.accepts.count _ j.accepts.meant j.on (sym j.says) said } }
     ]
 
 pub returns-in-PeekErr-clause-refuses : goal.returns-in-PeekErr-clause-refuses
