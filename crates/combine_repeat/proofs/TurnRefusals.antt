@@ -7,11 +7,7 @@ use Rattle.combine_base.specs.Parser.Outcome.{Accepted, or_true, or_false}
 use Rattle.combine_base.specs.Parser.Reasons.{ReasonedCall, refused_with}
 use Rattle.combine_base.specs.Sequence.Parts.{accepted_as, refused_as}
 use Rattle.combine_base.specs.Stream.View.{View, advanced}
-<<<<<<< HEAD
 use Rattle.combine_base.specs.declared.error.tracked.Tracked.{Tracked}
-=======
-use Rattle.combine_base.specs.declared.error.Tracked.{Tracked}
->>>>>>> 63458091 (Bounds of turns are asked once for an accepted turn, and once for a refused one)
 use Rattle.combine_repeat.specs.Turns.Bounds.{full_at, is_block_at, judged, kept_or, turn_after, running_turn, so_far, so_far_or, RefusesHere, RefusesOnward, StartsInto, StopRefuses, here_into, turns_from}
 use Rattle.combine_repeat.specs.Turns.OneTurn.{IsTurnBlock, stopped_answer}
 use Rattle.combine_repeat.specs.Turns.Turn.{Start, called, from_start, from_state, started}
