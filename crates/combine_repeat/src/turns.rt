@@ -14,14 +14,11 @@ ghost use Rattle.combine_repeat.specs.Turns.Bounds.{JudgesRefusal, TurnStepRefus
 ghost use Rattle.combine_repeat.specs.Turns.Turn.{TurnsSame, called, started};
 ghost use Rattle.combine_repeat.specs.Turns.TurnCalls.{HaltsCall, OneTurnCall, TurnsCall};
 
-mod entry;
-
 use crate::bounds::{Lack, TurnBounds, TurnIndex};
 use combine_base::error::{Info, ParseError, ParseResult, Tracked, accepted_after, refused_after};
-use combine_base::parser::{ParseMode, Parser};
+use combine_base::parser::{FirstMode, ParseMode, Parser};
 use combine_base::refusal::refusal_saying;
 use combine_base::stream::{Kind, Stream, needs_more};
-use entry::{Afresh, Entry, Resumed};
 use std::alloc::AllocError;
 use std::mem;
 
@@ -301,6 +298,40 @@ pub enum TurnStop<F, E> {
     Failed(E),
 }
 
+/// Parses a turn, which begins afresh or goes on from its state.
+///
+/// One that begins afresh has a state of its own, which is stored on need of more alone.
+#[inline(always)]
+fn parse_turn<Input: Stream, P: TurnParser<Input>, M: ParseMode>(
+    parser: &mut P,
+    later: bool,
+    mode: M,
+    input: &mut Input,
+    state: &mut P::Running,
+) -> ParseResult<P::Value, Input::Error>
+    requires lawful { P.lawful parser.old }
+    requires valid { P.valid state.old }
+    requires fresh { M.first mode ≡ true → P.Running.is_default state.old }
+    ensures lawful { P.lawful parser.new }
+    ensures valid { P.valid state.new }
+    ensures same { TurnsSame (P.meaning parser.old) (P.again parser.old) (P.meaning parser.new) (P.again parser.new) }
+    ensures passes { Passes (Input.marks input.old) (Input.marks input.new) (Input.failures input.old) (Input.failures input.new) }
+    ensures answers { AnswersCall Input.StreamOnce Input.Error.observers P.Running.is_default (called (P.meaning parser.old) (P.again parser.old) later) (M.first mode) state.old state.new input.old input.new result }
+    ensures refuses { ReasonedCall Input.Error.observers (called (P.meaning parser.old) (P.again parser.old) later) (M.first mode) state.old (Input.view input.old) (Input.view input.new) result }
+{
+    if !mode.is_first() {
+        return parser.parse_turn(later, mode, input, state);
+    }
+    let mut own = P::Running::default();
+    let answer = parser.parse_turn(later, FirstMode, input, &mut own);
+    if let ParseResult::CommitErr(error) = &answer {
+        if needs_more(input, error) {
+            *state = own;
+        }
+    }
+    answer
+}
+
 /// Makes the error of a refusal of that kind that says how many turns are missing.
 #[inline]
 fn too_few<Input: Stream>(
@@ -370,12 +401,13 @@ fn judge_refusal<G: Gather<P::Value>, Input: Stream, P: TurnParser<Input>, B: Tu
     }
 }
 
-/// Runs one turn as `entry` calls it, and gathers its value where it is a block.
+/// Runs one turn, and gathers its value where it is a block.
 #[inline(always)]
-fn one_turn<G: Gather<P::Value>, Input: Stream, P: TurnParser<Input>, B: TurnBounds, C: Entry>(
+fn one_turn<G: Gather<P::Value>, Input: Stream, P: TurnParser<Input>, B: TurnBounds, M: ParseMode>(
     parser: &mut P,
     bounds: B,
-    entry: C,
+    later: bool,
+    mode: M,
     turns: TurnProgress<G::Collection>,
     input: &mut Input,
     running: &mut P::Running,
@@ -383,17 +415,17 @@ fn one_turn<G: Gather<P::Value>, Input: Stream, P: TurnParser<Input>, B: TurnBou
     requires able { (a : P.Value) → P.gives a → G.able a }
     requires lawful { P.lawful parser.old }
     requires valid { P.valid running.old }
-    requires fresh { C.first entry ≡ true → P.Running.is_default running.old }
+    requires fresh { M.first mode ≡ true → P.Running.is_default running.old }
     ensures lawful { P.lawful parser.new }
     ensures valid { P.valid running.new }
     ensures same { TurnsSame (P.meaning parser.old) (P.again parser.old) (P.meaning parser.new) (P.again parser.new) }
     ensures passes { Passes (Input.marks input.old) (Input.marks input.new) (Input.failures input.old) (Input.failures input.new) }
-    ensures turned { OneTurnCall Input.StreamOnce Input.Error.observers P.Running.is_default (B.bounds bounds) P.ending (gathered G.held G.none G.more G.heapless) (called (P.meaning parser.old) (P.again parser.old) (C.later entry)) (C.first entry) running.old running.new input.old input.new turns result }
-    ensures refuses { TurnStepRefuses Input.step Input.Error.observers (B.bounds bounds) P.ending (started (called (P.meaning parser.old) (P.again parser.old) (C.later entry)) (C.first entry) running.old) (Input.view input.old) (Input.view input.new) turns result }
+    ensures turned { OneTurnCall Input.StreamOnce Input.Error.observers P.Running.is_default (B.bounds bounds) P.ending (gathered G.held G.none G.more G.heapless) (called (P.meaning parser.old) (P.again parser.old) later) (M.first mode) running.old running.new input.old input.new turns result }
+    ensures refuses { TurnStepRefuses Input.step Input.Error.observers (B.bounds bounds) P.ending (started (called (P.meaning parser.old) (P.again parser.old) later) (M.first mode) running.old) (Input.view input.old) (Input.view input.new) turns result }
 {
     let since = input.checkpoint();
     let position = input.position();
-    let (value, committed) = match entry.enter(parser, input, running) {
+    let (value, committed) = match parse_turn(parser, later, mode, input, running) {
         ParseResult::CommitOk(value) => (value, true),
         ParseResult::PeekOk(value) => (value, false),
         ParseResult::PeekErr(refusal) => {
@@ -476,10 +508,11 @@ pub fn take_turns<
             state.running = P::Running::default();
             return turns.end();
         }
-        match one_turn::<G, Input, P, B, Resumed<M>>(
+        match one_turn::<G, Input, P, B, M>(
             parser,
             bounds,
-            Resumed { mode },
+            false,
+            mode,
             turns,
             input,
             &mut state.running,
@@ -495,10 +528,11 @@ pub fn take_turns<
         if bounds.is_full(turns.index) {
             return turns.end();
         }
-        match one_turn::<G, Input, P, B, Afresh>(
+        match one_turn::<G, Input, P, B, FirstMode>(
             parser,
             bounds,
-            Afresh { later },
+            later,
+            FirstMode,
             turns,
             input,
             &mut state.running,
