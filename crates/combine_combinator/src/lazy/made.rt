@@ -6,7 +6,7 @@ ghost use Rattle.combine_combinator.specs.MadeParsers.{MakerLeavesStream, MadeAt
 use combine_base::error::ParseResult;
 use combine_base::function::MutFunction;
 use combine_base::parser::{Calls, ParseMode, Parser};
-use combine_base::stream::{Stream, needs_more};
+use combine_base::stream::{Stream, asks_for_more};
 
 /// A parser that was made, and its state.
 #[derive(Drop)]
@@ -54,21 +54,14 @@ pub fn run_made<Input: Stream, N: Parser<Input> + Drop, M: ParseMode>(
         mut parser,
         state: mut kept,
     } = from;
-    match parser.parse_mode(mode, input, &mut kept) {
-        ParseResult::CommitOk(value) => ParseResult::CommitOk(value),
-        ParseResult::PeekOk(value) => ParseResult::PeekOk(value),
-        ParseResult::CommitErr(error) => {
-            if needs_more(input, &error) {
-                *state = MadeState::Kept(Made {
-                    parser,
-                    state: kept,
-                });
-                return ParseResult::CommitErr(error);
-            }
-            ParseResult::CommitErr(error)
-        }
-        ParseResult::PeekErr(refusal) => ParseResult::PeekErr(refusal),
+    let answer = parser.parse_mode(mode, input, &mut kept);
+    if asks_for_more(input, &answer) {
+        *state = MadeState::Kept(Made {
+            parser,
+            state: kept,
+        });
     }
+    answer
 }
 
 /// Runs the parser as `run_made` does, in a call that resumes: apart from the code of calls that begin afresh.
