@@ -18,7 +18,7 @@ use crate::bounds::{Lack, TurnBounds, TurnIndex};
 use combine_base::error::{Info, ParseError, ParseResult, Tracked, accepted_after, refused_after};
 use combine_base::parser::{FirstMode, ParseMode, Parser};
 use combine_base::refusal::refusal_saying;
-use combine_base::stream::{Kind, Stream, needs_more};
+use combine_base::stream::{Kind, Stream, asks_for_more, needs_more};
 use std::alloc::AllocError;
 use std::mem;
 
@@ -324,10 +324,8 @@ fn parse_turn<Input: Stream, P: TurnParser<Input>, M: ParseMode>(
     }
     let mut own = P::Running::default();
     let answer = parser.parse_turn(later, FirstMode, input, &mut own);
-    if let ParseResult::CommitErr(error) = &answer {
-        if needs_more(input, error) {
-            *state = own;
-        }
+    if asks_for_more(input, &answer) {
+        *state = own;
     }
     answer
 }
