@@ -1,5 +1,5 @@
 -- chains: one operand at least, and operands folded from the right, the last operator first
-use Rattle.std.proofs.Common.{ℕ, zero, suc, ◌-◌, nat_lt, not, ◌≡◌, Bool, true, List, [], ◌∷◌, ◌++◌, None, length, refl, arith}
+use Rattle.std.proofs.Common.{rules, ℕ, zero, suc, ◌-◌, ◌<◌, nat_lt, not, ◌≡◌, Bool, true, List, [], ◌∷◌, ◌++◌, None, length, refl, subst, arith}
 use Rattle.combine_repeat.specs.Repeat.Repeated.{no_value_ends}
 use Rattle.combine_repeat.specs.Turns.SoundValues.{EndsAt, Full, Enough, ByValue, EndsSound}
 use Rattle.combine_repeat.specs.declared.bounds.Bounds.TheVariants.{OwnFirst}
@@ -23,6 +23,9 @@ pub last_good : {O V : Type 0} (good : O → Type 0) (xs : List (PendingOperand 
 last_good good [] x d = (tt, d.0)
 last_good good (y ∷ xs) x d = let h = last_good good xs x d.1 in ((d.0, h.0), h.1)
 
+has_one : (n : ℕ) → nat_lt 0 (suc n) ≡ true
+has_one n = let l : 0 < suc n = omega arith in search rules
+
 -- turns of which one is asked for end behind one
 module _ {A V : Type 0} (sound : Bool → V → Type 0) (v : V) where
   by_end : (g : TurnIndex) → EndsAt {A = A} (OwnFirst 1 None) no_value_ends g → sound (nat_lt 0 g.number) v → sound true v
@@ -31,7 +34,7 @@ module _ {A V : Type 0} (sound : Bool → V → Type 0) (v : V) where
     where
       by_number : (n : ℕ) → not (nat_lt 0 (1 - n)) ≡ true → sound (nat_lt 0 n) v → sound true v
       by_number zero e s = absurd (cc)
-      by_number (suc n) e s = s
+      by_number (suc n) e s = subst (λ b. sound b v) (has_one n) s
   by_end g (ByValue a e) s = absurd (cc)
 
   pub at_least_one : EndsSound {A = A} (OwnFirst 1 None) no_value_ends sound v → sound true v

@@ -25,18 +25,18 @@ module _ {P T R A B S S' E : Type 0} (w : World P T S E) (fresh : S' → Type 0)
     pub puts_back : m'.puts_back → m.puts_back
     pub heapless : m'.heapless → m.heapless
 
-  module _ (part_first : Bool) (part_state : S) (first : Bool) (given : S') where
+  module _ (part_state : S) (first : Bool) (given : S') where
     -- the call begins as that of the part does
     pub record BeginsAsPart : Type 0 where
-      pub meant : (v : View P T) (o : Outcome B) → following false f (begun m part_first part_state) v o → begun m' first given v o
-      pub lost : (v : View P T) → part_first ≡ false → m.lost part_state v → (first ≡ false) × m'.lost given v
+      pub meant : (v : View P T) (o : Outcome B) → following false f (m.rest part_state) v o → begun m' first given v o
+      pub lost : (v : View P T) → m.lost part_state v → (first ≡ false) × m'.lost given v
 
     module _ (z : BeginsAsPart) (k : Keeping) (old new : View P T) (before after : Failures) (stopped : S) where
       abbrev run : CallRecord P T S
-      run = record { first = part_first; state = part_state; left = stopped; old = old; new = new; before = before; after = after }
+      run = record { first = false; state = part_state; left = stopped; old = old; new = new; before = before; after = after }
 
       abbrev here : Reading P T B
-      here = following false f (begun m part_first part_state)
+      here = following false f (m.rest part_state)
 
       abbrev around_run : S' → CallRecord P T S'
       around_run left = record { first = first; state = given; left = left; old = old; new = new; before = before; after = after }
@@ -48,12 +48,12 @@ module _ {P T R A B S S' E : Type 0} (w : World P T S E) (fresh : S' → Type 0)
         resets = omega arith;
         refuses = λ k x. (Refused k, x, refl);
         heapless = k.heapless;
-        lost = λ d x. z.lost old d x;
+        lost = λ d x. z.lost old x;
       }
 
-      resuming : (n : ℕ) → Resumes (begun m part_first part_state) (m.rest stopped) n old new → Resumes here (m'.rest (keep stopped)) n old new
+      resuming : (n : ℕ) → Resumes (m.rest part_state) (m.rest stopped) n old new → Resumes here (m'.rest (keep stopped)) n old new
       resuming n x =
-          let h = following_resumes false f (begun m part_first part_state) (m.rest stopped) n old new x in
+          let h = following_resumes false f (m.rest part_state) (m.rest stopped) n old new x in
           record { gives = λ x i o j q. h.gives x i o j (k.rest stopped _ o q); committed = λ x i o j l q. h.committed x i o j l (k.rest stopped _ o q) }
 
       keeping : KeepsAround w fresh m m' run first given (keep stopped) old before here 0
@@ -77,7 +77,7 @@ module _ {P T R A B S S' E : Type 0} (w : World P T S E) (fresh : S' → Type 0)
       over left d (CommitErr e) n a = inside_fails (inside left) (λ k. d) e n a
       over left d (PeekErr t) n a = inside_refuses (inside left) (λ k. d) t a
 
-    pub placed : BeginsAsPart → Keeping → (valid : S → Type 0) (start left : S') → fresh start → (old new : View P T) (before after : Failures) (result : ParseResult B E) → RanPart w m valid f keep part_first part_state start left old new before after result → Answers (around w fresh) m' (record { first = first; state = given; left = left; old = old; new = new; before = before; after = after }) result
+    pub placed : BeginsAsPart → Keeping → (valid : S → Type 0) (start left : S') → fresh start → (old new : View P T) (before after : Failures) (result : ParseResult B E) → RanPart w m valid f keep part_state start left old new before after result → Answers (around w fresh) m' (record { first = first; state = given; left = left; old = old; new = new; before = before; after = after }) result
     placed z k valid start left d old new before after result p = rw p.is (by_left p.leaves)
       where
         by_left : (NeedsMore w.kind new.is_open p.answer × (left ≡ keep p.stopped) × valid p.stopped) ⊎ ((NeedsMore w.kind new.is_open p.answer → ⊥) × (left ≡ start)) → Answers (around w fresh) m' (record { first = first; state = given; left = left; old = old; new = new; before = before; after = after }) (joined_answer false f p.answer)

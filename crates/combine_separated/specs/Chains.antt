@@ -111,10 +111,10 @@ folded post = gathered (λ v. v) None (folds post) (Unit {0})
 abbrev pub each_operand : {O V : Type 0} → Collecting (Element O V) (ChainOperands O V)
 each_operand = gathered kept_operands None keeps_operand ⊥
 
-module _ {P T R E O V Z U W : Type 0} (step : P → T → P) (errors : Observers T R P E) (c : Collecting (Element O V) Z) (gives : c.Held → V → Type 0) where
+module _ {P T R E O V Z U W : Type 0} (step : P → T → P) (errors : Observers T R P E) (c : Collecting (Element O V) Z) (gives : Z → V → Type 0) where
   -- an operand, and then turns of an operator and an operand; what they are gathered into gives a value
   abbrev pub chained : Meaning P T R E V U → Meaning P T R E O W → Meaning P T R E V (TurnsState Z (SeparatedState O W U))
-  chained m s = mapped (elements_meaning step errors (OwnFirst 1 None) c m s) (λ z. gives (c.held z))
+  chained m s = mapped (elements_meaning step errors (OwnFirst 1 None) c m s) gives
 
 module _ {P T R E O V U W : Type 0} (step : P → T → P) (errors : Observers T R P E) where
   -- an operand, and then turns of an operator and an operand
@@ -128,7 +128,7 @@ module _ {P T R E O V U W : Type 0} (step : P → T → P) (errors : Observers T
 
     -- the same, folded from the right
     abbrev pub right_fold : Meaning P T R E V U → Meaning P T R E O W → Meaning P T R E V (TurnsState (ChainOperands O V) (SeparatedState O W U))
-    right_fold = chained step errors each_operand (gives_right post)
+    right_fold = chained step errors each_operand (λ z. gives_right post (kept_operands z))
 
     -- the same, of which each call begins again
     abbrev pub chainr1 : Meaning P T R E V U → Meaning P T R E O W → Meaning P T R E V (Unit {0})

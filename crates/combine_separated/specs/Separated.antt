@@ -1,5 +1,5 @@
 -- a first part, and then turns of another parser
-use Rattle.std.specs.Prelude.{false, ◌↔◌}
+use Rattle.std.specs.Prelude.{◌≡◌, Bool, true, false, ◌↔◌}
 use Rattle.combine_base.specs.Stream.View.{View}
 use Rattle.combine_base.specs.Parser.Outcome.{Outcome}
 use Rattle.combine_base.specs.Parser.Meaning.{Meaning, Reading, Refusing, SameReasons, IsReading, IsMeaning, MeansOne, MeansSame}
@@ -70,6 +70,18 @@ default_at fresh valid valid' h (at.Later s) d = absurd d
 
 pub separated_default : {O W U : Type 0} (fresh valid : U → Type 0) (valid' : PairState O W U → Type 0) → ((s : U) → fresh s → valid s) → (s : SeparatedState O W U) → separated_fresh fresh s → separated_valid valid valid' s
 separated_default fresh valid valid' h s d = default_at fresh valid valid' h (turn_place s) d
+
+-- the first turn begins, or a later one
+abbrev pub begins_turn : {O W U : Type 0} → (U → Type 0) → (PairState O W U → Type 0) → Bool → TurnPlace U (PairState O W U) → Type 0
+begins_turn fresh fresh' false (at.First s) = fresh s
+begins_turn fresh fresh' false (at.Later s) = ⊥
+begins_turn fresh fresh' true (at.First s) = ⊥
+begins_turn fresh fresh' true (at.Later s) = fresh' s
+
+-- which turn a call runs: one that begins, or the one that is kept
+abbrev pub runs_turn : {O W U : Type 0} → (U → Type 0) → (PairState O W U → Type 0) → (later first : Bool) → SeparatedState O W U → TurnPlace U (PairState O W U) → Type 0
+runs_turn fresh fresh' later true given p = begins_turn fresh fresh' later p
+runs_turn fresh fresh' later false given p = turn_place given ≡ p
 
 -- the errors of the turn that runs
 abbrev pub kept_refuses : {P T R E C D O W U : Type 0} → Meaning P T R E D U → Meaning P T R E C (PairState O W U) → TurnPlace U (PairState O W U) → Refusing P T E

@@ -11,9 +11,9 @@ ghost use Rattle.combine_repeat.specs.Turns.SoundValues.{any_sound};
 ghost use Rattle.combine_repeat.specs.Turns.Turn.{gives_any};
 
 use crate::pair::{PairState, PairStateOf, parse_pair};
-use crate::separated::{Lead, SeparatedState, TurnPlace};
+use crate::separated::{Lead, SeparatedState, TurnPlace, begin_turn};
 use combine_base::error::{ParseResult, Tracked};
-use combine_base::parser::{FirstMode, ParseMode, Parser};
+use combine_base::parser::{ParseMode, Parser};
 use combine_base::repeat::Append;
 use combine_base::stream::{Stream, needs_more};
 use combine_choice::or::types::Optional;
@@ -74,10 +74,11 @@ fn run_first<Input: Stream, P: Parser<Input>, O: Drop, W: Drop, M: ParseMode>(
 ) -> ParseResult<Option<P::Output>, Input::Error>
     requires lawful { P.lawful parser.old }
     requires valid { P.valid kept }
+    requires starts { M.first mode ≡ true → P.PartialState.is_default kept }
     ensures lawful { P.lawful parser.new }
     ensures same { MeansSame (P.meaning parser.old) (P.meaning parser.new) }
     ensures passes { Passes (Input.marks input.old) (Input.marks input.new) (Input.failures input.old) (Input.failures input.new) }
-    ensures ran { RanCall Input.StreamOnce Input.Error.observers P.PartialState.is_default (P.meaning parser.old) P.valid some_of (λ s. SeparatedState.Part Lead.Nothing s) (M.first mode) kept state.old state.new input.old input.new result }
+    ensures ran { RanCall Input.StreamOnce Input.Error.observers P.PartialState.is_default (P.meaning parser.old) P.valid some_of (λ s. SeparatedState.Part Lead.Nothing s) kept state.old state.new input.old input.new result }
 {
     let mut kept = kept;
     match parser.parse_mode(mode, input, &mut kept) {
@@ -161,23 +162,8 @@ impl<Input: Stream, P: Parser<Input>, S: Parser<Input>> TurnParser<Input> for En
         input: &mut Input,
         state: &mut Self::Running,
     ) -> ParseResult<Self::Value, Input::Error> {
-        let given = mem::take(state);
-        if mode.is_first() {
-            if later {
-                let kept = PairState::default();
-                return run_later(
-                    &mut self.separator,
-                    &mut self.part,
-                    FirstMode,
-                    kept,
-                    input,
-                    state,
-                );
-            }
-            let kept = P::PartialState::default();
-            return run_first(&mut self.part.0, FirstMode, kept, input, state);
-        }
-        match given.into_place() {
+        let place = begin_turn(later, mode, mem::take(state));
+        match place {
             TurnPlace::First(kept) => run_first(&mut self.part.0, mode, kept, input, state),
             TurnPlace::Later(kept) => run_later(
                 &mut self.separator,

@@ -14,8 +14,8 @@ pub trait Direction<O: Folds<V>, V>: Gather<Element<O, V>> {
     ghost use Rattle.combine_separated.specs.Separated.{lead_good};
     ghost use Rattle.combine_separated.specs.declared.separated.Element.{Element};
 
-    /// What the operands that are held give.
-    ghost folded: { Self.Held → V → Type 0 };
+    /// What the operands give.
+    ghost folded: { Self.Collection → V → Type 0 };
 
     /// Returns what operands are gathered into, with none yet.
     fn start(&self) -> Self::Collection
@@ -24,7 +24,7 @@ pub trait Direction<O: Folds<V>, V>: Gather<Element<O, V>> {
     /// Folds the operands, of which there is at least one.
     fn fold(operands: Self::Collection) -> V
         requires { Self.sound true (Self.held operands) }
-        ensures { folded (Self.held operands) result };
+        ensures { folded operands result };
 
     /// Each operator is taken that can be called.
     ghost takes_operators: { (a : Element O V) → lead_good (λ f. O.callable f) a → Self.able a };
@@ -168,7 +168,7 @@ impl<V: Drop, O: Folds<V> + Drop> Gather<Element<O, V>> for FromRight {
 }
 
 impl<V: Drop, O: Folds<V> + Drop> Direction<O, V> for FromRight {
-    ghost folded = { gives_right (λ f x y r. O.answers f x y r) };
+    ghost folded = { λ z. gives_right (λ f x y r. O.answers f x y r) (kept_operands z) };
 
     #[inline(always)]
     fn start(&self) -> ChainOperands<O, V> {

@@ -6,11 +6,11 @@ ghost use Rattle.combine_base.specs.Stream.Calls.{Passes};
 ghost use Rattle.combine_separated.specs.Pair.{LedBy, led_is_meaning, led_means_one, led_valid, pair, pair_begins, pair_is_meaning, pair_means_one, pair_valid};
 ghost use Rattle.combine_separated.specs.Separators.{separated_gives};
 ghost use Rattle.combine_separated.specs.PartCalls.{RanCall, RanLaterCall};
-ghost use Rattle.combine_separated.specs.Separated.{first_element, first_then, later_kept, later_turn, lead_good, part_of, separated_default, separated_fresh, separated_valid, separator_of, then_element, then_is_turn, then_once, turn_place};
+ghost use Rattle.combine_separated.specs.Separated.{first_element, first_then, later_kept, later_turn, lead_good, part_of, runs_turn, separated_default, separated_fresh, separated_valid, separator_of, then_element, then_is_turn, then_once, turn_place};
 
 use crate::pair::{PairState, PairStateOf, parse_pair};
 use combine_base::error::{ParseResult, Tracked};
-use combine_base::parser::{FirstMode, ParseMode, Parser};
+use combine_base::parser::{ParseMode, Parser};
 use combine_base::stream::{Stream, needs_more};
 use combine_repeat::turns::TurnParser;
 use std::marker::PhantomData;
@@ -156,6 +156,24 @@ pub struct Separated<P, S, L> {
     pub asks: PhantomData<L>,
 }
 
+/// Returns which turn a call runs, with the state that it runs from: a turn that begins, or the one that is kept.
+#[inline(always)]
+pub fn begin_turn<O: Drop, W: Default + Drop, U: Default + Drop, M: ParseMode>(
+    later: bool,
+    mode: M,
+    kept: SeparatedState<O, W, U>,
+) -> TurnPlace<U, PairState<O, W, U>>
+    ensures { runs_turn U.is_default (pair_begins W.is_default) later (M.first mode) kept result }
+{
+    if !mode.is_first() {
+        return kept.into_place();
+    }
+    if later {
+        return TurnPlace::Later(PairState::default());
+    }
+    TurnPlace::First(U::default())
+}
+
 /// Runs the first part, from what is kept of it.
 #[inline(always)]
 fn run_first<Input: Stream, P: Parser<Input>, O: Drop, W: Drop, M: ParseMode>(
@@ -167,10 +185,11 @@ fn run_first<Input: Stream, P: Parser<Input>, O: Drop, W: Drop, M: ParseMode>(
 ) -> ParseResult<Element<O, P::Output>, Input::Error>
     requires lawful { P.lawful parser.old }
     requires valid { P.valid kept }
+    requires starts { M.first mode ≡ true → P.PartialState.is_default kept }
     ensures lawful { P.lawful parser.new }
     ensures same { MeansSame (P.meaning parser.old) (P.meaning parser.new) }
     ensures passes { Passes (Input.marks input.old) (Input.marks input.new) (Input.failures input.old) (Input.failures input.new) }
-    ensures ran { RanCall Input.StreamOnce Input.Error.observers P.PartialState.is_default (P.meaning parser.old) P.valid first_element (λ s. SeparatedState.Part Lead.Nothing s) (M.first mode) kept state.old state.new input.old input.new result }
+    ensures ran { RanCall Input.StreamOnce Input.Error.observers P.PartialState.is_default (P.meaning parser.old) P.valid first_element (λ s. SeparatedState.Part Lead.Nothing s) kept state.old state.new input.old input.new result }
 {
     let mut kept = kept;
     match parser.parse_mode(mode, input, &mut kept) {
@@ -256,23 +275,8 @@ impl<Input: Stream, P: Parser<Input>, S: Parser<Input>, L: Leads<S::Output, P::O
         input: &mut Input,
         state: &mut Self::Running,
     ) -> ParseResult<Self::Value, Input::Error> {
-        let given = mem::take(state);
-        if mode.is_first() {
-            if later {
-                let kept = PairState::default();
-                return run_later(
-                    &mut self.separator,
-                    &mut self.parser,
-                    FirstMode,
-                    kept,
-                    input,
-                    state,
-                );
-            }
-            let kept = P::PartialState::default();
-            return run_first(&mut self.parser, FirstMode, kept, input, state);
-        }
-        match given.into_place() {
+        let place = begin_turn(later, mode, mem::take(state));
+        match place {
             TurnPlace::First(kept) => run_first(&mut self.parser, mode, kept, input, state),
             TurnPlace::Later(kept) => run_later(
                 &mut self.separator,

@@ -8,10 +8,10 @@ pub returns-clause-same : goal.returns-clause-same
 returns-clause-same g c = turns_means_same _ _ (g.B.TurnBounds.bounds (sep_bounds c.args.self.now)) no_value_ends _ _ _ _ _ _ c.take_turns.ensures.same
 
 pub returns-clause-answers : goal.returns-clause-answers
-returns-clause-answers g c = rw (c.none_yet-start.ensures, c.empty.ensures, c.turns.ensures) at c.take_turns.ensures.answers
+returns-clause-answers g c = rw (c.none_yet-start.ensures, c.empty.ensures) at c.take_turns.ensures.answers
 
 pub take_turns-requires-clause-lawful : goal.take_turns-requires-clause-lawful
 take_turns-requires-clause-lawful g c = (any_given, c.requires.lawful.0, c.requires.lawful.1)
 
 pub returns-clause-refuses : goal.returns-clause-refuses
-returns-clause-refuses g c = rw (c.none_yet-start.ensures, c.empty.ensures, c.turns.ensures) at c.take_turns.ensures.refuses
+returns-clause-refuses g c = rw (c.none_yet-start.ensures, c.empty.ensures) at c.take_turns.ensures.refuses

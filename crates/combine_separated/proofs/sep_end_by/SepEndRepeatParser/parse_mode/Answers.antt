@@ -7,7 +7,7 @@ pub returns-clause-same : goal.returns-clause-same
 returns-clause-same g c = turns_means_same _ _ (g.B.TurnBounds.bounds (sep_end_bounds c.args.self.now)) is_none _ _ _ _ _ _ c.take_turns.ensures.same
 
 pub returns-clause-answers : goal.returns-clause-answers
-returns-clause-answers g c = rw (c.none_yet-start.ensures, c.empty.ensures, c.turns.ensures) at c.take_turns.ensures.answers
+returns-clause-answers g c = rw (c.none_yet-start.ensures, c.empty.ensures) at c.take_turns.ensures.answers
 
 pub returns-clause-refuses : goal.returns-clause-refuses
-returns-clause-refuses g c = rw (c.none_yet-start.ensures, c.empty.ensures, c.turns.ensures) at c.take_turns.ensures.refuses
+returns-clause-refuses g c = rw (c.none_yet-start.ensures, c.empty.ensures) at c.take_turns.ensures.refuses

@@ -1,4 +1,4 @@
-use Rattle.std.proofs.Common.{None}
+use Rattle.std.proofs.Common.{None, false, subst, sym}
 use Rattle.combine_base.proofs.Errors.CallReasons.{reasons_err, reasons_peek_err}
 use Rattle.combine_base.proofs.Errors.MeantRefusals.{reasoned_accepted, reasoned_peeked}
 use Rattle.combine_base.proofs.Parsers.ValueMap.{mapped_err, mapped_ok, mapped_peek_err, mapped_peek_ok}
@@ -67,4 +67,4 @@ pub take_turns-requires-clause-able : goal.take_turns-requires-clause-able
 take_turns-requires-clause-able g c = g.met.D.Direction.takes_operators
 
 pub take_turns-requires-clause-sound : goal.take_turns-requires-clause-sound
-take_turns-requires-clause-sound g c = (c.requires.valid.1, rw (c.none_yet-start.ensures, c.start.ensures) g.met.D.Gather.keeps_sound.begins)
+take_turns-requires-clause-sound g c = (c.requires.valid.1, rw c.none_yet-start.ensures (subst (λ h. g.D.Gather.sound false h) (sym c.start.ensures) g.met.D.Gather.keeps_sound.begins))
