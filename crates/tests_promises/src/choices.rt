@@ -29,11 +29,11 @@ fn tuples<Input: Stream<Token = u8>>()
 where
     Input::Error: ParseError<u8, Input::Range, Input::Position>,
 {
-    let a = token(b'a');
+    let (any, a) = (any(), token(b'a'));
     keeps_without_memory::<Input, _>(&choice((a,)));
-    keeps_without_memory::<Input, _>(&choice((a, a)));
-    keeps_without_memory::<Input, _>(&choice((a, a, a, a)));
-    keeps_without_memory::<Input, _>(&choice((a, a, a, a, a)));
+    keeps_without_memory::<Input, _>(&choice((a, any)));
+    keeps_without_memory::<Input, _>(&choice((a, any, a, any)));
+    keeps_without_memory::<Input, _>(&choice((a, any, a, any, a)));
 }
 
 /// Choices over longer tuples.
@@ -41,10 +41,10 @@ fn longer_tuples<Input: Stream<Token = u8>>()
 where
     Input::Error: ParseError<u8, Input::Range, Input::Position>,
 {
-    let a = token(b'a');
-    keeps_without_memory::<Input, _>(&choice((a, a, a, a, a, a)));
-    keeps_without_memory::<Input, _>(&choice((a, a, a, a, a, a, a)));
-    keeps_without_memory::<Input, _>(&choice((a, a, a, a, a, a, a, a)));
+    let (any, a) = (any(), token(b'a'));
+    keeps_without_memory::<Input, _>(&choice((a, any, a, any, a, any)));
+    keeps_without_memory::<Input, _>(&choice((a, any, a, any, a, any, a)));
+    keeps_without_memory::<Input, _>(&choice((a, any, a, any, a, any, a, any)));
 }
 
 /// One of two or three.

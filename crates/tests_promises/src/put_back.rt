@@ -29,11 +29,11 @@ fn up_to_a_place<Input: Stream<Token = u8>>(alloc: Global)
 where
     Input::Error: ParseError<u8, Input::Range, Input::Position>,
 {
-    let a = token(b'a');
+    let (any, a) = (any(), token(b'a'));
     puts_back_without_memory::<Input, _>(&skip_until(a));
-    puts_back_without_memory::<Input, _>(&repeat_skip_until(a, a));
+    puts_back_without_memory::<Input, _>(&repeat_skip_until(any, a));
     puts_back::<Input, _>(&take_until::<Vec<u8>, _, _, _>(alloc, a));
-    puts_back::<Input, _>(&repeat_until::<Vec<u8>, _, _, _>(alloc, a, a));
+    puts_back::<Input, _>(&repeat_until::<Vec<u8>, _, _, _>(alloc, any, a));
 }
 
 /// A chain that is folded from the right.

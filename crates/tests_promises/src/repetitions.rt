@@ -43,12 +43,12 @@ fn separated<Input: Stream<Token = u8>>(alloc: Global)
 where
     Input::Error: ParseError<u8, Input::Range, Input::Position>,
 {
-    let a = token(b'a');
-    keeps::<Input, _>(&sep_count_min_max::<Vec<u8>, _, _>(alloc, 1, 2, a, a));
-    keeps::<Input, _>(&sep_by::<Vec<u8>, _, _>(alloc, a, a));
-    keeps::<Input, _>(&sep_by1::<Vec<u8>, _, _>(alloc, a, a));
-    keeps::<Input, _>(&sep_end_by::<Vec<u8>, _, _>(alloc, a, a));
-    keeps::<Input, _>(&sep_end_by1::<Vec<u8>, _, _>(alloc, a, a));
+    let (any, a) = (any(), token(b'a'));
+    keeps::<Input, _>(&sep_count_min_max::<Vec<u8>, _, _>(alloc, 1, 2, any, a));
+    keeps::<Input, _>(&sep_by::<Vec<u8>, _, _>(alloc, any, a));
+    keeps::<Input, _>(&sep_by1::<Vec<u8>, _, _>(alloc, any, a));
+    keeps::<Input, _>(&sep_end_by::<Vec<u8>, _, _>(alloc, any, a));
+    keeps::<Input, _>(&sep_end_by1::<Vec<u8>, _, _>(alloc, any, a));
     let operator = map(a, |_: u8| |left: u8, right: u8| left ^ right);
-    keeps_without_memory::<Input, _>(&chainl1(a, operator));
+    keeps_without_memory::<Input, _>(&chainl1(any, operator));
 }

@@ -12,12 +12,12 @@ fn tuples<Input: Stream<Token = u8>>()
 where
     Input::Error: ParseError<u8, Input::Range, Input::Position>,
 {
-    let a = token(b'a');
+    let (any, a) = (any(), token(b'a'));
     keeps_without_memory::<Input, _>(&(a,));
-    keeps_without_memory::<Input, _>(&(a, a));
-    keeps_without_memory::<Input, _>(&(a, a, a));
-    keeps_without_memory::<Input, _>(&(a, a, a, a));
-    keeps_without_memory::<Input, _>(&(a, a, a, a, a));
+    keeps_without_memory::<Input, _>(&(any, a));
+    keeps_without_memory::<Input, _>(&(any, a, any));
+    keeps_without_memory::<Input, _>(&(any, a, any, a));
+    keeps_without_memory::<Input, _>(&(any, a, any, a, any));
 }
 
 /// Longer tuples.
@@ -25,10 +25,10 @@ fn longer_tuples<Input: Stream<Token = u8>>()
 where
     Input::Error: ParseError<u8, Input::Range, Input::Position>,
 {
-    let a = token(b'a');
-    keeps_without_memory::<Input, _>(&(a, a, a, a, a, a));
-    keeps_without_memory::<Input, _>(&(a, a, a, a, a, a, a));
-    keeps_without_memory::<Input, _>(&(a, a, a, a, a, a, a, a));
+    let (any, a) = (any(), token(b'a'));
+    keeps_without_memory::<Input, _>(&(any, a, any, a, any, a));
+    keeps_without_memory::<Input, _>(&(any, a, any, a, any, a, any));
+    keeps_without_memory::<Input, _>(&(any, a, any, a, any, a, any, a));
 }
 
 /// Tuples of whose values one is kept.
@@ -36,10 +36,10 @@ fn of_one_value<Input: Stream<Token = u8>>()
 where
     Input::Error: ParseError<u8, Input::Range, Input::Position>,
 {
-    let a = token(b'a');
-    keeps_without_memory::<Input, _>(&with(a, a));
-    keeps_without_memory::<Input, _>(&skip(a, a));
-    keeps_without_memory::<Input, _>(&between(a, a, a));
+    let (any, a) = (any(), token(b'a'));
+    keeps_without_memory::<Input, _>(&with(a, any));
+    keeps_without_memory::<Input, _>(&skip(any, a));
+    keeps_without_memory::<Input, _>(&between(a, a, any));
 }
 
 /// A parser that a function answers.

@@ -36,28 +36,17 @@ where
     )
 }
 
-fn any_case<Input: Stream<Token = u8>, D: Driver<Input>>(rows: &mut D)
+/// Checks the rows of a list of letters, in any case.
+fn any_case<Input: Stream<Token = u8>, D: Driver<Input>>(
+    rows: &mut D,
+    list: &'static [u8],
+    expected: &[(&'static str, &'static str)],
+)
 where
     Input::Error: ParseError<u8, Input::Range, Input::Position>,
 {
-    rows.check(
-        tokens_cmp(b"abc".as_slice(), |wanted: &u8, byte: u8| {
-            wanted.eq_ignore_ascii_case(&byte)
-        }),
-        &[("AbC", "abc taken 3 committed")],
-    )
-}
-
-fn no_tokens<Input: Stream<Token = u8>, D: Driver<Input>>(rows: &mut D)
-where
-    Input::Error: ParseError<u8, Input::Range, Input::Position>,
-{
-    rows.check(
-        tokens_cmp(b"".as_slice(), |wanted: &u8, byte: u8| {
-            wanted.eq_ignore_ascii_case(&byte)
-        }),
-        &[("a", " taken 0 peeked"), ("", " taken 0 peeked")],
-    )
+    let in_any_case = |wanted: &u8, byte: u8| wanted.eq_ignore_ascii_case(&byte);
+    rows.check(tokens_cmp(list, in_any_case), expected)
 }
 
 fn classes<Input: Stream<Token = char>, D: Driver<Input>>(rows: &mut D)
@@ -104,8 +93,16 @@ fn tokens(rt: HostRuntime) -> Result<(), AllocError> {
     let alloc = rt.alloc();
     let mut rows = Rows::new(alloc);
     of_bytes::<MaybePartialStream<SliceStream<'static, u8>>, Rows>(alloc, &mut rows);
-    any_case::<MaybePartialStream<SliceStream<'static, u8>>, Rows>(&mut rows);
-    no_tokens::<MaybePartialStream<SliceStream<'static, u8>>, Rows>(&mut rows);
+    any_case::<MaybePartialStream<SliceStream<'static, u8>>, Rows>(
+        &mut rows,
+        b"abc",
+        &[("AbC", "abc taken 3 committed")],
+    );
+    any_case::<MaybePartialStream<SliceStream<'static, u8>>, Rows>(
+        &mut rows,
+        b"",
+        &[("a", " taken 0 peeked"), ("", " taken 0 peeked")],
+    );
     classes::<MaybePartialStream<TextStream<'static>>, Rows>(&mut rows);
     texts::<MaybePartialStream<TextStream<'static>>, Rows>(&mut rows);
     rows.finish(&rt)
