@@ -1,30 +1,29 @@
 //! The method forms of the constructors.
 ghost use Rattle.std.specs.Prelude.{◌≡◌};
-ghost use Rattle.combine_token.specs.Choice.Or.{or_parser};
-ghost use Rattle.combine_repeat_iterate.specs.IteratorValues.{IsNewIter, may_go_on};
+ghost use Rattle.combine_choice.specs.Choice.Or.{or_parser};
+ghost use Rattle.combine_repeat.specs.IteratorValues.{IsNewIter, may_go_on};
 ghost use Rattle.combine_combinator.specs.CombinatorParsers.{map_of, picked_of};
-ghost use Rattle.combine_combinator_function.specs.ChangeParsers.{and_then_of, flat_map_of, map_input_of};
+ghost use Rattle.combine_function.specs.ChangeParsers.{and_then_of, flat_map_of, map_input_of};
 ghost use Rattle.combine_error.specs.ErrorParsers.{expected_of, message_of, silent_of};
-ghost use Rattle.combine_combinator_spanned.specs.SpannedErrors.{spanned_of};
+ghost use Rattle.combine_error.specs.SpannedErrors.{spanned_of};
 ghost use Rattle.combine_sequence.specs.Then.{then_of, then_partial_of, then_ref_of};
 
 use combine_base::error::Info;
 use combine_base::parser::{Calls, FirstMode, ParseMode, Parser};
 use combine_base::stream::Stream;
-use combine_choice_dispatch::variants::Either;
+use combine_choice::or;
+use combine_choice::or::types::Or;
+use combine_choice::variants::Either;
 use combine_combinator::combinator;
 use combine_combinator::combinator::types::Map;
-use combine_combinator_function::combinator as changes;
-use combine_combinator_function::combinator::types::{AndThen, FlatMap, MapInput};
-use combine_combinator_spanned::combinator as spans;
-use combine_combinator_spanned::combinator::types::Spanned;
-use combine_error::error;
 use combine_error::error::types::{Expected, Message, Silent};
-use combine_repeat_iterate::repeat::Iter;
+use combine_error::spanned::types::Spanned;
+use combine_error::{error, spanned as spans};
+use combine_function::combinator as changes;
+use combine_function::combinator::types::{AndThen, FlatMap, MapInput};
+use combine_repeat::iter::Iter;
 use combine_sequence::sequence;
 use combine_sequence::sequence::types::{Skip, Then, ThenPartial, ThenRef, With};
-use combine_token::choice;
-use combine_token::choice::types::Or;
 
 /// The method forms of the constructors, which every parser has.
 ///
@@ -106,7 +105,7 @@ pub trait ParserExt<Input: Stream>: Parser<Input> {
         Self: Sized,
         ensures { result ≡ or_parser self other }
     {
-        choice::or(self, other)
+        or::or(self, other)
     }
 
     /// Makes this parser the left one of two.

@@ -4,7 +4,7 @@ pub use combine_base::stream::{
     Failures, Kind, Left, Positioned, ResetStream, Stream, StreamOnce, asks_for_more, ends_open,
     fed, has_taken, needs_more,
 };
+pub use combine_byte::bytes::ByteStream;
 pub use combine_error::{easy, span};
-pub use combine_range_search::bytes::ByteStream;
 pub use combine_stream::range::{ByteRange, Range, RangeStream};
 pub use combine_stream::{Faulty, MaybePartialStream, Unfailing, position};

@@ -93,23 +93,23 @@ pub trait Parser<Input: Stream>: Outputs<Input> {
     type PartialState: Default + Drop;
 
     /// What a call needs of a caller's functions and types.
-    ghost lawful: { Self → Type 0 };
+    ghost lawful: { Self → Type 0 } = { λ _. Unit {0} };
 
     /// What a caller's functions owe so that there is one outcome, by its shape.
     ///
     /// No call needs it.
     ///
     /// Those on whose value an outcome depends, as that of `then`, answer from what their arguments hold.
-    ghost determined: { Self → Type 0 };
+    ghost determined: { Self → Type 0 } = { λ _. Unit {0} };
 
     /// The states that a call may be given: a parser that a state holds is lawful.
-    ghost valid: { Self.PartialState → Type 0 };
+    ghost valid: { Self.PartialState → Type 0 } = { λ _. Unit {0} };
 
     /// Which outcomes the parser has on a view, from the start and from a state, and which errors its refusals have.
     ghost meaning: { Self → Meaning Input.Position Input.Token Input.Range Input.Error Self.Output Self.PartialState };
 
     /// How many parsers are run one after another, at most 255.
-    ghost parts: { Self → ℕ };
+    ghost parts: { Self → ℕ } = { λ _. 1 };
 
     /// Parses, afresh or from the kept state.
     ///

@@ -11,8 +11,8 @@ use Rattle.combine_base.specs.Error.Items.{ErrorItem}
 use Rattle.combine_base.specs.Parser.Answer.{Answers, CallRecord, World}
 use Rattle.combine_base.specs.Parser.Reasons.{Reasoned}
 use Rattle.combine_base.specs.Stream.View.{View}
-use Rattle.combine_base.specs.declared.error.Info.{Info}
-use Rattle.combine_base.specs.declared.error.ParseResult.{ParseResult}
+use Rattle.combine_base.specs.declared.error.info.Info.{Info}
+use Rattle.combine_base.specs.declared.error.result.ParseResult.{ParseResult}
 use Rattle.combine_base.proofs.Errors.CallReasons.{reasons_into}
 use Rattle.combine_base.proofs.Parsers.SameMeanings.{answers_alike}
 use Rattle.combine_token.specs.Token.Lists.IteratedLists.{IsIterated, iterated_tokens}

@@ -12,8 +12,8 @@ use Rattle.combine_base.proofs.Errors.CallReasons.{reasons_ok, reasons_peek_ok, 
 use Rattle.combine_base.proofs.Parsers.ValueMap.{mapped_err, mapped_peek_err, mapped_ok, mapped_peek_ok}
 use Rattle.combine_char.specs.Restart.{whole_pair}
 use Rattle.combine_char.specs.NamedParser.{named}
-use Rattle.combine_base.specs.declared.error.ParseResult.{ParseResult}
-use Rattle.combine_base.specs.declared.error.ParseResult.TheVariants.{CommitOk, PeekOk, CommitErr, PeekErr}
+use Rattle.combine_base.specs.declared.error.result.ParseResult.{ParseResult}
+use Rattle.combine_base.specs.declared.error.result.ParseResult.TheVariants.{CommitOk, PeekOk, CommitErr, PeekErr}
 
 pub mapped_answer : {P T R A B S E : Type 0} (w : World P T S E) (m : Meaning P T R E A S) (f : A → B → Type 0) (r : CallRecord P T S) (g : A → B → Type 0) → ((a : A) (b : B) → g a b → f a b) → (x : ParseResult A E) (y : ParseResult B E) → MapsValue g x y → Answers w m r x → Answers w (mapped m f) r y
 mapped_answer w m f r g i (CommitOk a) (CommitOk b) p h = mapped_ok w m f r a b (i a b p) h

@@ -87,11 +87,7 @@ where
 
     ghost determined = { λ p. F.determined (fits_of_bytes p) };
 
-    ghost valid = { λ s. Unit {0} };
-
     ghost meaning = { λ p. token_list Input.Error.observers (listed_tokens (F.returns (fits_of_bytes p)) (bytes_of_parser p).now) None (λ v. v ≡ bytes_of_parser p) matched_before (Unit {0}) (SaysRange (Input.Range.shows (bytes_of_parser p).now)) };
-
-    ghost parts = { λ p. 1 };
 
     #[inline(always)]
     fn parse_mode<M: ParseMode>(

@@ -37,8 +37,6 @@ impl<Input: Stream, A: Drop, B: Drop, P: Parser<Input, Output = (A, B)>> Parser<
 
     ghost determined = { λ p. P.determined (pair_of p) };
 
-    ghost valid = { λ s. Unit {0} };
-
     ghost meaning = { λ p. whole_pair (P.meaning (pair_of p)) };
 
     ghost parts = { λ p. P.parts (pair_of p) };

@@ -58,11 +58,7 @@ impl<Input: Stream, F: Fits<char, Input::Token>> Parser<Input> for TextParser<In
 
     ghost determined = { λ p. F.determined (fits_of_text p) };
 
-    ghost valid = { λ s. Unit {0} };
-
     ghost meaning = { λ p. token_list Input.Error.observers (listed_tokens (F.returns (fits_of_text p)) (chars (text_of_parser p).now)) None (λ v. v ≡ text_of_parser p) matched_before (Unit {0}) (Only (Expected (Fixed (text_of_parser p).now))) };
-
-    ghost parts = { λ p. 1 };
 
     #[inline(always)]
     fn parse_mode<M: ParseMode>(

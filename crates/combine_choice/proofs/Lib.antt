@@ -1,5 +1,2 @@
-pub mod EqualValues
-pub mod AlternativeLists
-pub mod MergedErrors
-pub mod RefusedAlternatives
-pub mod SliceCalls
+pub mod HeldAnswers
+pub mod Choices

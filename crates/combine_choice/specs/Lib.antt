@@ -1,5 +1,12 @@
-pub mod ListChoice
-pub mod MergedErrors
-pub mod NestedChoice
-pub mod SliceCalls
-pub mod ChoiceParsers
+pub use Rattle.combine_base.specs.Parser.Answer
+pub use Rattle.combine_base.specs.Error.Errors
+pub use Rattle.combine_base.specs.Error.Items
+pub use Rattle.combine_base.specs.Parser.ValueMap
+pub use Rattle.combine_base.specs.Parser.Meaning
+pub use Rattle.combine_base.specs.Parser.Outcome
+pub use Rattle.combine_base.specs.Stream.Calls
+pub use Rattle.combine_base.specs.Stream.View
+pub use Rattle.combine_base.specs.Predicates
+pub mod HeldParser
+pub mod Variants2
+pub mod Choice

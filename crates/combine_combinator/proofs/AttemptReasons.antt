@@ -14,11 +14,11 @@ use Rattle.combine_base.proofs.Errors.MeantRefusals.{refusal_is_meant}
 use Rattle.combine_base.specs.declared.stream.Failures.{Failures}
 use Rattle.combine_base.specs.declared.stream.Kind.{Kind}
 use Rattle.combine_base.specs.declared.stream.Kind.TheVariants as kinds
-use Rattle.combine_base.specs.declared.error.Tracked.{Tracked}
-use Rattle.combine_base.specs.declared.error.ParseResult.{ParseResult}
-use Rattle.combine_base.specs.declared.error.ParseResult.TheVariants.{CommitOk, PeekOk, CommitErr, PeekErr}
+use Rattle.combine_base.specs.declared.error.tracked.Tracked.{Tracked}
+use Rattle.combine_base.specs.declared.error.result.ParseResult.{ParseResult}
+use Rattle.combine_base.specs.declared.error.result.ParseResult.TheVariants.{CommitOk, PeekOk, CommitErr, PeekErr}
 use Rattle.combine_combinator.specs.Attempt.{IsFreshTry, attempted, with_peeked_refusal, refusing, KeepsTokenDistance, PutsBack, keeps_token_distance}
-use Rattle.combine_combinator.specs.declared.combinator.TryState.{TryState}
+use Rattle.combine_combinator.specs.declared.combinator.types.TryState.{TryState}
 
 module _ {P T S V E : Type 0} (counts_failures : Type 0) (step : P → T → P) (marked : View P T → Type 0) (old new : View P T) (before after : Failures) (kind : E → Kind) (fresh : S → Type 0) (state left : S) (refusal : Tracked E) where
   -- a refusal that is put back has its own error

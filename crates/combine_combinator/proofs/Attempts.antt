@@ -13,11 +13,11 @@ use Rattle.combine_base.proofs.Parsers.Progress.{after_none, takes_none, takes_m
 use Rattle.combine_base.specs.declared.stream.Kind.{Kind}
 use Rattle.combine_base.specs.declared.stream.Kind.TheVariants as kinds
 use Rattle.combine_base.specs.declared.stream.Failures.{Failures}
-use Rattle.combine_base.specs.declared.error.Tracked.{Tracked}
-use Rattle.combine_base.specs.declared.error.ParseResult.{ParseResult}
-use Rattle.combine_base.specs.declared.error.ParseResult.TheVariants.{CommitOk, PeekOk, CommitErr, PeekErr}
+use Rattle.combine_base.specs.declared.error.tracked.Tracked.{Tracked}
+use Rattle.combine_base.specs.declared.error.result.ParseResult.{ParseResult}
+use Rattle.combine_base.specs.declared.error.result.ParseResult.TheVariants.{CommitOk, PeekOk, CommitErr, PeekErr}
 use Rattle.combine_combinator.specs.Attempt.{IsFreshTry, with_peeked_refusal, refusing, Attempts, LosesTry, Short, LostWithin, attempted, KeepsTokenDistance, PutsBack, keeps_token_distance}
-use Rattle.combine_combinator.specs.declared.combinator.TryState.{TryState}
+use Rattle.combine_combinator.specs.declared.combinator.types.TryState.{TryState}
 
 -- a part's refusal that could not be put back: the fault of the reset
 pub attempt_not_put_back : {P T E S V : Type 0} (counts_failures : Type 0) (step : P → T → P) (marked : View P T → Type 0) (old new : View P T) (before after : Failures) (kind : E → Kind) (fresh : S → Type 0) (state left : S) (t : Tracked E) (why : Kind) (result : ParseResult V E) → ResetTo counts_failures step marked old new before after (Err why) → (e : E) × (result ≡ CommitErr e) × (kind e ≡ why) → fresh left → PutsBack counts_failures step marked old new before after kind fresh state left t result

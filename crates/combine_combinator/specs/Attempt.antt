@@ -7,12 +7,12 @@ use Rattle.combine_base.specs.Parser.Outcome.{Outcome, Accepted, Refused, Undeci
 use Rattle.combine_base.specs.Parser.Meaning.{Meaning, Reading, Refusing, IsReading, IsSingle, IsMeaning, MeansOne, MeansSame, SameReasons, refusals, refusals_begin, refusals_from, refusals_from_same, refusals_same}
 use Rattle.combine_base.specs.declared.stream.Kind.{Kind}
 use Rattle.combine_base.specs.declared.stream.Kind.TheVariants as kinds
-use Rattle.combine_combinator.specs.declared.combinator.TryState.{TryState}
+use Rattle.combine_combinator.specs.declared.combinator.types.TryState.{TryState}
 use Rattle.combine_base.specs.Distances.{MeasuresDistance}
 use Rattle.combine_base.specs.Stream.Calls.{ResetTo}
-use Rattle.combine_base.specs.declared.error.ParseResult.{ParseResult}
-use Rattle.combine_base.specs.declared.error.ParseResult.TheVariants.{CommitOk, PeekOk, CommitErr, PeekErr}
-use Rattle.combine_base.specs.declared.error.Tracked.{Tracked}
+use Rattle.combine_base.specs.declared.error.result.ParseResult.{ParseResult}
+use Rattle.combine_base.specs.declared.error.result.ParseResult.TheVariants.{CommitOk, PeekOk, CommitErr, PeekErr}
+use Rattle.combine_base.specs.declared.error.tracked.Tracked.{Tracked}
 use Rattle.combine_base.specs.declared.stream.Failures.{Failures}
 
 -- the outcome, its refusal peeked

@@ -4,9 +4,13 @@ pub use Rattle.combine_base.specs.Parser.Meaning
 pub use Rattle.combine_base.specs.Parser.Outcome
 pub use Rattle.combine_base.specs.Stream.View
 pub use Rattle.combine_base.specs.Distances
+pub use Rattle.combine_base.specs.Error.Errors
 pub mod Attempt
 pub mod ResetAnswers
 pub mod CombinatorParsers
 pub mod CombinatorLaws
 pub mod ValueParts
 pub mod Tables
+pub mod RecognizedTokens
+pub mod MadeCalls
+pub mod MadeParsers

@@ -5,8 +5,8 @@ use Rattle.combine_base.specs.Stream.View.{View, Moves}
 use Rattle.combine_base.specs.declared.stream.Kind.{Kind}
 use Rattle.combine_base.specs.declared.stream.Kind.TheVariants as kinds
 use Rattle.combine_base.specs.declared.stream.Failures.{Failures}
-use Rattle.combine_base.specs.declared.error.ParseResult.{ParseResult}
-use Rattle.combine_base.specs.declared.error.ParseResult.TheVariants.{CommitErr}
+use Rattle.combine_base.specs.declared.error.result.ParseResult.{ParseResult}
+use Rattle.combine_base.specs.declared.error.result.ParseResult.TheVariants.{CommitErr}
 
 module _ {P T V E : Type 0} (counts_failures : Type 0) (step : P → T → P) (kind : E → Kind) (marked : View P T → Type 0) (old new : View P T) (before after : Failures) where
   -- the stream was put back, and the answer is that one

@@ -1,6 +1,5 @@
 //! Parsers that change the value of another parser, or keep a part of it, put its refusals back, or look ahead.
-ghost use Rattle.std.specs.Prelude.{◌≡◌, if◌then◌else◌};
-ghost use Rattle.combine_combinator.specs.Attempt.{IsFreshTry};
+ghost use Rattle.std.specs.Prelude.{◌≡◌};
 ghost use Rattle.combine_combinator.specs.CombinatorParsers.{attempt_of, look_ahead_of, map_of, no_partial_of, not_followed_by_of, picked_of};
 
 pub mod laws;
@@ -8,6 +7,7 @@ mod look;
 pub mod types;
 mod values;
 
+pub use types::TryState;
 use types::{Ignore, LookAhead, Map, NoPartial, NotFollowedBy, Try};
 
 /// Parses as `p`, and changes its value by `f`.
@@ -160,36 +160,4 @@ pub fn no_partial<P>(p: P) -> NoPartial<P>
     ensures { result ≡ no_partial_of p }
 {
     NoPartial(p)
-}
-
-/// What `attempt` keeps while more input is needed: the distance that was read, in tokens, and the state of its part.
-#[derive(Drop)]
-pub struct TryState<S> {
-    distance: u64,
-    part: S,
-}
-
-impl<S: Default> Default for TryState<S> {
-    ghost is_default = { IsFreshTry S.is_default };
-
-    #[inline]
-    fn default() -> Self {
-        TryState {
-            distance: 0,
-            part: S::default(),
-        }
-    }
-}
-
-impl<S> TryState<S> {
-    /// Hands out the distance that a call begins with: none where it begins afresh.
-    #[inline]
-    fn begin(&mut self, first: bool) -> u64
-        ensures begun { result ≡ (if first then 0 else self.old.distance) }
-        ensures left { self.new ≡ record { distance = 0; part = self.old.part } }
-    {
-        let distance = if first { 0 } else { self.distance };
-        self.distance = 0;
-        distance
-    }
 }

@@ -1,4 +1,8 @@
-//! Parsers that change what another parser gives: its value by a function, or its refusals.
+//! Parsers made of one parser.
 #![tactic(auto)]
 
+mod collecting;
 pub mod combinator;
+pub mod lazy;
+pub mod lazy_laws;
+pub mod recognize;

@@ -4,7 +4,7 @@ use Rattle.std.proofs.lemmas.List.{length-append, length-drop}
 use Rattle.combine_base.specs.Parser.Meaning.{Meaning}
 use Rattle.combine_session.specs.Sessions.{Course, Feeds, by_stage}
 use Rattle.combine_session.specs.Sessions as session
-use Rattle.combine_base.specs.declared.error.UnexpectedParse.{UnexpectedParse}
+use Rattle.combine_base.specs.declared.error.unexpected.UnexpectedParse.{UnexpectedParse}
 use Rattle.combine_base.specs.declared.parser.answer.Answer.{Answer}
 use Rattle.combine_session.specs.declared.session.SessionError.{SessionError}
 use Rattle.combine_session.specs.declared.session.SessionError.TheVariants as session_errors

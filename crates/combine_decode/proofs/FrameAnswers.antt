@@ -9,8 +9,8 @@ use Rattle.combine_base.specs.Sequence.Readings.{continues, sequel}
 use Rattle.combine_base.specs.Stream.View.{View, advanced}
 use Rattle.combine_decode.proofs.TokenTurns.{takes_so_many}
 use Rattle.combine_decode.specs.Frames.{framed, length_read, short_of}
-use Rattle.combine_byte_num.specs.Numbers.{big_endian}
-use Rattle.combine_byte_num.specs.WholeNumbers.{whole_number}
+use Rattle.combine_byte.specs.Numbers.{big_endian}
+use Rattle.combine_byte.specs.WholeNumbers.{whole_number}
 
 module _ {P N : Type 0} (step : P → ℕ → P) (made : ℕ → N) (means : N → Reading P ℕ (Vec ℕ)) (takes : (n : ℕ) (v : View P ℕ) (o : Outcome (Vec ℕ)) → means (made n) v o → takes_so_many step n (λ (m : Vec ℕ). m.items) ⊥ v o) where
   -- what is answered for a length

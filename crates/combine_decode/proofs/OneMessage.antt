@@ -5,7 +5,7 @@ use Rattle.combine_base.specs.Parser.Outcome.{Outcome, Accepted, Refused, Undeci
 use Rattle.combine_base.specs.Parser.Meaning.{Meaning, Reading}
 use Rattle.combine_session.specs.Sessions.{Course, BeginsSession, BeginsAgain, Feeds, anew_by_stage, by_stage, left_of_session}
 use Rattle.combine_session.specs.Sessions as session
-use Rattle.combine_base.specs.declared.error.UnexpectedParse.{UnexpectedParse}
+use Rattle.combine_base.specs.declared.error.unexpected.UnexpectedParse.{UnexpectedParse}
 use Rattle.combine_base.specs.declared.parser.answer.Answer.{Answer}
 use Rattle.combine_base.specs.declared.parser.answer.Answer.TheVariants as answers
 use Rattle.combine_session.specs.declared.session.SessionError.{SessionError}

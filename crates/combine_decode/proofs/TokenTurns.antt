@@ -5,11 +5,11 @@ use Rattle.combine_base.specs.Parser.Meaning.{Reading}
 use Rattle.combine_base.specs.Parser.Outcome.{Outcome, Accepted, Refused, Undecided, after, shape}
 use Rattle.combine_base.specs.Stream.View.{View, after_all}
 use Rattle.combine_token.specs.Token.OneToken.{of_function, one_token, satisfied}
-use Rattle.combine_repeat_turns.specs.Turns.Bounds.{bounded, judged, none_yet, refused_at}
-use Rattle.combine_repeat_turns.specs.Repeat.Repeated.{appended, no_value_ends}
-use Rattle.combine_repeat_turns.specs.Turns.Blocks.{Block, Collecting, HoldsCollected, DividesBlocks, FoldsAll, TakesBlock, Rule, StopsTurns, StopsHere, TurnsOutcome, any_committed, taken, values}
-use Rattle.combine_repeat_turns.specs.declared.bounds.Bounds.TheVariants.{Counted}
-use Rattle.combine_repeat_turns.specs.declared.bounds.TurnIndex.{TurnIndex}
+use Rattle.combine_repeat.specs.Turns.Bounds.{bounded, judged, none_yet, refused_at}
+use Rattle.combine_repeat.specs.Repeat.Repeated.{appended, no_value_ends}
+use Rattle.combine_repeat.specs.Turns.Blocks.{Block, Collecting, HoldsCollected, DividesBlocks, FoldsAll, TakesBlock, Rule, StopsTurns, StopsHere, TurnsOutcome, any_committed, taken, values}
+use Rattle.combine_repeat.specs.declared.bounds.Bounds.TheVariants.{Counted}
+use Rattle.combine_repeat.specs.declared.bounds.TurnIndex.{TurnIndex}
 
 -- what tokens appended one by one make
 folds_to : {T : Type 0} (h xs i : List T) → FoldsAll (λ us t ws. ws ≡ us ++ t ∷ []) h xs i → i ≡ h ++ xs

@@ -6,9 +6,9 @@ use Rattle.combine_base.specs.Parser.Meaning.{Reading}
 use Rattle.combine_base.specs.Parser.Outcome.{Accepted, Refused, Undecided}
 use Rattle.combine_base.specs.Stream.View.{View}
 use Rattle.combine_decode.specs.declared.decode.framing.Framing.{Framing}
-use Rattle.combine_byte_num.specs.Numbers.{big_endian}
-use Rattle.combine_byte_num.specs.WholeNumbers.{number_parser}
-use Rattle.combine_byte_num.specs.declared.whole.WholeNumber.{WholeNumber}
+use Rattle.combine_byte.specs.Numbers.{big_endian}
+use Rattle.combine_byte.specs.WholeNumbers.{number_parser}
+use Rattle.combine_byte.specs.declared.whole.WholeNumber.{WholeNumber}
 use Rattle.combine_sequence.specs.Then.{answered_of}
 use Rattle.combine_sequence.specs.declared.sequence.answered.Answered.{Answered}
 

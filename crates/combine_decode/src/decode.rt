@@ -14,7 +14,7 @@ use combine_base::error::UnexpectedParse;
 use combine_base::function::Maker;
 use combine_base::parser::{Answer, Parser};
 use combine_base::stream::{Kind, fed};
-use combine_byte_num::num::be_u16;
+use combine_byte::num::be_u16;
 use combine_sequence::sequence::types::Answered;
 use combine_session::session::{Session, SessionError};
 use framing::Framing;

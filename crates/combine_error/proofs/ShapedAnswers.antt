@@ -13,8 +13,8 @@ use Rattle.combine_base.proofs.Parsers.SameMeanings.{answers_alike}
 use Rattle.combine_base.specs.Stream.View.{View}
 use Rattle.combine_base.specs.declared.stream.Kind.{Kind}
 use Rattle.combine_base.specs.declared.stream.Kind.TheVariants as kinds
-use Rattle.combine_base.specs.declared.error.ParseResult.{ParseResult}
-use Rattle.combine_base.specs.declared.error.ParseResult.TheVariants.{CommitOk, PeekOk, CommitErr, PeekErr}
+use Rattle.combine_base.specs.declared.error.result.ParseResult.{ParseResult}
+use Rattle.combine_base.specs.declared.error.result.ParseResult.TheVariants.{CommitOk, PeekOk, CommitErr, PeekErr}
 use Rattle.combine_error.specs.RewordedErrors.{saying, saying_alike, AddsOnRefusal, adds_on_refusal, ClearsExpected, clears_expected, RefusesWithoutExpected, RefusesWithItem, refuses_with_item}
 
 no_need : (b : Bool) (k : Kind) → IsRefusal b k → (k ≡ kinds.End) × (b ≡ true) → ⊥

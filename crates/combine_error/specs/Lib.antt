@@ -1,7 +1,12 @@
 pub use Rattle.combine_base.specs.Error.Errors
 pub use Rattle.combine_base.specs.Error.Items
 pub use Rattle.combine_base.specs.Parser.Meaning
+pub use Rattle.combine_token.specs.Token.Stateless
+pub use Rattle.combine_base.specs.Parser.Outcome
+pub use Rattle.combine_base.specs.Stream.View
+pub mod Unexpected
 pub mod Easy
 pub mod RewordedErrors
 pub mod ErrorParsers
 pub mod Spans
+pub mod SpannedErrors

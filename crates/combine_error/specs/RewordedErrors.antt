@@ -5,8 +5,8 @@ use Rattle.combine_base.specs.Error.Errors.{Observers, AddsItems, Added, Cleared
 use Rattle.combine_base.specs.Parser.Meaning.{Meaning, Alike, IsMeaning, MeansOne, MeansSame, Refusing, SameReasons}
 use Rattle.combine_base.specs.Parser.DriverAnswers.{IsRefusal}
 use Rattle.combine_base.specs.Stream.View.{View}
-use Rattle.combine_base.specs.declared.error.ParseResult.{ParseResult}
-use Rattle.combine_base.specs.declared.error.ParseResult.TheVariants.{CommitOk, PeekOk, CommitErr, PeekErr}
+use Rattle.combine_base.specs.declared.error.result.ParseResult.{ParseResult}
+use Rattle.combine_base.specs.declared.error.result.ParseResult.TheVariants.{CommitOk, PeekOk, CommitErr, PeekErr}
 
 -- these items, and then one more
 abbrev pub WithOneMore : {T R : Type 0} → (List (ErrorItem T R) → Type 0) → ErrorItem T R → List (ErrorItem T R) → Type 0

@@ -5,6 +5,7 @@ ghost use Rattle.combine_error.specs.ErrorParsers.{expected_of, message_of, sile
 pub mod types;
 
 use combine_base::error::Info;
+pub use types::{add_message_to_refusal, clear_expected_of_refusal};
 use types::{Expected, Message, Silent};
 
 /// Parses as `parser`, but its refusals also say this.

@@ -1,6 +1,8 @@
-//! Errors that people can read: errors that keep items, streams with them, streams whose positions are spans, and parsers that shape what errors say.
+//! Errors that people can read, and the parsers that change them.
 #![tactic(auto)]
 
 pub mod easy;
 pub mod error;
 pub mod span;
+pub mod spanned;
+pub mod unexpected;

@@ -5,8 +5,8 @@ use Rattle.combine_base.specs.Stream.View.{View}
 use Rattle.combine_base.specs.Parser.ValueMap.{mapped_reading}
 use Rattle.combine_base.specs.Parser.Meaning.{Reading}
 use Rattle.combine_base.specs.Parser.Outcome.{Accepted}
-use Rattle.combine_token.specs.Choice.Choices.{OrElse, Here, Later, refused}
-use Rattle.combine_token.specs.Choice.Optional.{is_some, nothing_taken}
+use Rattle.combine_choice.specs.Choice.Choices.{OrElse, Here, Later, refused}
+use Rattle.combine_choice.specs.Choice.Optional.{is_some, nothing_taken}
 use Rattle.combine_facts.specs.Reads.{Reads, either, maybe}
 
 module _ {P T A : Type 0} where

@@ -4,12 +4,12 @@ use Rattle.std.proofs.Common.{arith, ltb-false, ltb-true}
 use Rattle.combine_base.specs.Stream.View.{View}
 use Rattle.combine_base.specs.Parser.Outcome.{Outcome, Accepted, Refused, Undecided}
 use Rattle.combine_base.specs.Parser.Meaning.{Reading}
-use Rattle.combine_repeat_turns.specs.Turns.Bounds.{accepted_at, bounded, counted_to, full_at, is_enough, is_block_at, judged, turn_after, refused_at}
-use Rattle.combine_repeat_turns.specs.Repeat.Repeated.{no_value_ends}
-use Rattle.combine_repeat_turns.specs.Turns.Blocks.{StopsTurns, StopsHere}
-use Rattle.combine_repeat_turns.specs.declared.bounds.Bounds.{Bounds}
-use Rattle.combine_repeat_turns.specs.declared.bounds.Bounds.TheVariants.{Unbounded, OwnFirst, Counted}
-use Rattle.combine_repeat_turns.specs.declared.bounds.TurnIndex.{TurnIndex}
+use Rattle.combine_repeat.specs.Turns.Bounds.{accepted_at, bounded, counted_to, full_at, is_enough, is_block_at, judged, turn_after, refused_at}
+use Rattle.combine_repeat.specs.Repeat.Repeated.{no_value_ends}
+use Rattle.combine_repeat.specs.Turns.Blocks.{StopsTurns, StopsHere}
+use Rattle.combine_repeat.specs.declared.bounds.Bounds.{Bounds}
+use Rattle.combine_repeat.specs.declared.bounds.Bounds.TheVariants.{Unbounded, OwnFirst, Counted}
+use Rattle.combine_repeat.specs.declared.bounds.TurnIndex.{TurnIndex}
 use Rattle.combine_facts.specs.TurnReads.{so_many}
 
 -- what a test says that is turned round

@@ -9,11 +9,11 @@ use Rattle.combine_base.specs.Stream.View.{View, advanced}
 use Rattle.combine_base.specs.Parser.Outcome.{Outcome, Accepted, Refused, Undecided, after}
 use Rattle.combine_base.specs.Parser.Meaning.{Reading}
 use Rattle.combine_token.specs.Token.OneToken.{of_function, one_token, satisfied}
-use Rattle.combine_repeat_turns.specs.Turns.Bounds.{bounded, count_bound, turn_after, none_yet}
-use Rattle.combine_repeat_turns.specs.Repeat.Repeated.{appended, dropped, no_value_ends}
-use Rattle.combine_repeat_turns.specs.Turns.Blocks.{Block, Collecting, DividesBlocks, FoldsAll, TurnsOutcome, any_committed, taken, values}
-use Rattle.combine_repeat_turns.specs.declared.bounds.Bounds.{Bounds}
-use Rattle.combine_repeat_turns.specs.declared.bounds.TurnIndex.{TurnIndex}
+use Rattle.combine_repeat.specs.Turns.Bounds.{bounded, count_bound, turn_after, none_yet}
+use Rattle.combine_repeat.specs.Repeat.Repeated.{appended, dropped, no_value_ends}
+use Rattle.combine_repeat.specs.Turns.Blocks.{Block, Collecting, DividesBlocks, FoldsAll, TurnsOutcome, any_committed, taken, values}
+use Rattle.combine_repeat.specs.declared.bounds.Bounds.{Bounds}
+use Rattle.combine_repeat.specs.declared.bounds.TurnIndex.{TurnIndex}
 use Rattle.combine_facts.specs.TurnReads.{all_where, each, first_and_each, gathers, listed, passed, so_many}
 use Rattle.combine_facts.specs.Reads.{Reads, one_where}
 use Rattle.combine_facts.proofs.CountFacts.{counts_up, fewest, next_fits, next_within, none_within, so_many_is, stops_with_enough, within_bounds}

@@ -1,8 +1,8 @@
 -- what the tokens of turns say of what is gathered of their values
 use Rattle.std.specs.Prelude.{ℕ, ◌≡◌, ◌≤◌, List, [], ◌∷◌, ◌++◌, Bool, true, None, Some, All, length, min}
-use Rattle.combine_repeat_turns.specs.Turns.Blocks.{Collecting, FoldsAll}
-use Rattle.combine_repeat_turns.specs.declared.bounds.Bounds.{Bounds}
-use Rattle.combine_repeat_turns.specs.declared.bounds.Bounds.TheVariants.{Unbounded, OwnFirst, Counted}
+use Rattle.combine_repeat.specs.Turns.Blocks.{Collecting, FoldsAll}
+use Rattle.combine_repeat.specs.declared.bounds.Bounds.{Bounds}
+use Rattle.combine_repeat.specs.declared.bounds.Bounds.TheVariants.{Unbounded, OwnFirst, Counted}
 
 -- the bounds of `many`, of `many1`, and of counts
 abbrev pub none_or_more : Bounds

@@ -18,9 +18,9 @@ use Rattle.combine_base.proofs.Errors.MeantRefusals.{explained_meant, reasoned_i
 use Rattle.combine_base.proofs.Sequences.SequenceResumes.{following_resumes, sequel_resumes, accepted_resumes}
 use Rattle.combine_base.proofs.Parsers.CallStarts.{in_mode, progress_here, progress_left}
 use Rattle.combine_base.proofs.Parsers.SameMeanings.{same_more, same_none}
-use Rattle.combine_base.specs.declared.error.ParseResult.{ParseResult}
-use Rattle.combine_base.specs.declared.error.Tracked.{Tracked}
-use Rattle.combine_base.specs.declared.error.ParseResult.TheVariants.{CommitOk, PeekOk, CommitErr, PeekErr}
+use Rattle.combine_base.specs.declared.error.result.ParseResult.{ParseResult}
+use Rattle.combine_base.specs.declared.error.tracked.Tracked.{Tracked}
+use Rattle.combine_base.specs.declared.error.result.ParseResult.TheVariants.{CommitOk, PeekOk, CommitErr, PeekErr}
 use Rattle.combine_base.specs.declared.parser.Parser as parser
 use Rattle.combine_base.specs.declared.stream.Failures.{Failures}
 use Rattle.combine_base.specs.declared.stream.Kind.TheVariants as kinds

@@ -2,3 +2,8 @@ mod FrameStack
 mod StepCuts
 mod StepErrors
 mod EachStep
+mod CompleteExpressions
+mod PartSteps
+mod Reductions
+mod OpenExpressions
+pub mod AlikeParts

@@ -1,8 +1,8 @@
 -- what answers the parser of the next step
 use Rattle.std.specs.Prelude.{Bool, true, false}
-use Rattle.combine_choice_dispatch.specs.declared.variants.either.Either.{Either}
-use Rattle.combine_choice_dispatch.specs.declared.variants.either.Either.TheVariants.{Left, Right}
-use Rattle.combine_combinator_lazy.specs.MadeParsers.{MadeBySome}
+use Rattle.combine_choice.specs.declared.variants.either.Either.{Either}
+use Rattle.combine_choice.specs.declared.variants.either.Either.TheVariants.{Left, Right}
+use Rattle.combine_combinator.specs.MadeParsers.{MadeBySome}
 use Rattle.combine_nested.specs.declared.nested.asked.Always.{Always}
 use Rattle.combine_nested.specs.declared.nested.asked.AlwaysWith.{AlwaysWith}
 use Rattle.combine_nested.specs.declared.nested.asked.IfElse.{IfElse}

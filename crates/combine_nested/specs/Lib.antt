@@ -10,3 +10,11 @@ pub mod Asks
 pub mod NestedSteps
 pub mod AlikeFrames
 pub mod StepCalls
+pub mod AcceptedSteps
+pub mod Levels
+pub mod ExpressionParts
+pub mod RefusedItems
+pub mod RefusedSteps
+pub mod Shapes
+pub mod SpelledItems
+pub mod OpenExpressions

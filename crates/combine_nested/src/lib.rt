@@ -1,4 +1,5 @@
-//! Grammars that nest: steps over frames that are open inside one another.
+//! Grammars that nest, with their frames in memory, and expressions of operators.
 #![tactic(auto)]
 
+pub mod expression;
 pub mod nested;

@@ -8,8 +8,8 @@ use Rattle.combine_base.specs.Parser.Answer.{CallRecord, World, Answers}
 use Rattle.combine_base.specs.Parser.Meaning.{Refusing}
 use Rattle.combine_base.proofs.Parsers.Progress.{takes_more, takes_open}
 use Rattle.combine_base.specs.declared.stream.Failures.{Failures}
-use Rattle.combine_base.specs.declared.error.ParseResult.{ParseResult}
-use Rattle.combine_base.specs.declared.error.ParseResult.TheVariants.{CommitOk, PeekOk}
+use Rattle.combine_base.specs.declared.error.result.ParseResult.{ParseResult}
+use Rattle.combine_base.specs.declared.error.result.ParseResult.TheVariants.{CommitOk, PeekOk}
 use Rattle.combine_stream.specs.Range.Ranges.{size_of, IsItemPlace, Longest, UnconsRange, UnconsWhile, place_at_zero}
 use Rattle.combine_range.specs.declared.distance.Distance.{Distance}
 use Rattle.combine_range.specs.KeptDistance.{kept, HandsOutRange, KeepsItemDistance}

@@ -8,7 +8,7 @@ use Rattle.combine_base.specs.declared.stream.Kind.{Kind}
 use Rattle.combine_base.specs.declared.stream.Kind.TheVariants as kinds
 use Rattle.combine_base.specs.declared.stream.Failures.{Failures}
 use Rattle.combine_stream.specs.Range.Ranges.{size_of, IsItemPlace, UnconsRange, unconses_range, no_range, one_place, place_within}
-use Rattle.combine_base.specs.declared.error.ParseResult.TheVariants.{CommitOk, PeekOk, CommitErr}
+use Rattle.combine_base.specs.declared.error.result.ParseResult.TheVariants.{CommitOk, PeekOk, CommitErr}
 use Rattle.combine_range.specs.declared.distance.Distance.{Distance}
 use Rattle.combine_range.specs.KeptDistance.{Hands, hands, HandsOutRange, KeepsItemDistance}
 

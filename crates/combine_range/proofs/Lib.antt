@@ -10,3 +10,6 @@ pub mod UntilRange
 pub mod RangeTests
 pub mod FairTests
 pub mod BeginningCalls
+pub mod OneLengths
+pub mod LengthAndItems
+pub mod PrefixErrors

@@ -6,8 +6,8 @@ use Rattle.combine_base.specs.Parser.Answer.{CallRecord, World, Answers, Leaves,
 use Rattle.combine_base.specs.Refusals.{NoToken, at_end}
 use Rattle.combine_base.specs.declared.stream.Kind.{Kind}
 use Rattle.combine_base.specs.declared.stream.Kind.TheVariants as kinds
-use Rattle.combine_base.specs.declared.error.ParseResult.{ParseResult}
-use Rattle.combine_base.specs.declared.error.ParseResult.TheVariants.{CommitOk, PeekOk, CommitErr, PeekErr}
+use Rattle.combine_base.specs.declared.error.result.ParseResult.{ParseResult}
+use Rattle.combine_base.specs.declared.error.result.ParseResult.TheVariants.{CommitOk, PeekOk, CommitErr, PeekErr}
 use Rattle.combine_range.specs.PeekedRefusals.{RefusesPeeked, refuses_peeked}
 
 module _ {P T R A S E : Type 0} (w : World P T S E) (m : Meaning P T R E A S) (r : CallRecord P T S) where

@@ -14,9 +14,9 @@ use Rattle.combine_base.proofs.Parsers.Progress.{after_none, takes_none, takes_m
 use Rattle.combine_base.specs.declared.stream.Kind.{Kind}
 use Rattle.combine_base.specs.declared.stream.Kind.TheVariants as kinds
 use Rattle.combine_base.specs.declared.stream.Failures.{Failures}
-use Rattle.combine_base.specs.declared.error.Tracked.{Tracked}
-use Rattle.combine_base.specs.declared.error.ParseResult.{ParseResult}
-use Rattle.combine_base.specs.declared.error.ParseResult.TheVariants.{CommitOk, PeekOk, CommitErr, PeekErr}
+use Rattle.combine_base.specs.declared.error.tracked.Tracked.{Tracked}
+use Rattle.combine_base.specs.declared.error.result.ParseResult.{ParseResult}
+use Rattle.combine_base.specs.declared.error.result.ParseResult.TheVariants.{CommitOk, PeekOk, CommitErr, PeekErr}
 use Rattle.combine_stream.specs.Range.Ranges.{size_of, IsItemPlace, EndsInsideToken, UnconsRange, no_range, place_stays, one_place, size_append, size_take}
 use Rattle.combine_range.specs.KeptDistance.{Handed, HandsOutRange, hands_out_range, NotPassed, not_passed}
 use Rattle.combine_range.specs.Range.RecognizedRange.{IsFreshRecognizing, beside_value, On, Split, Recognizes, LosesRecognizing, Short, Deeper, recognized, sliced}

@@ -10,7 +10,7 @@ use Rattle.combine_base.specs.Refusals.{NoToken}
 use Rattle.combine_base.proofs.Parsers.Progress.{takes_more, takes_open}
 use Rattle.combine_base.specs.declared.stream.Kind.TheVariants as kinds
 use Rattle.combine_base.specs.declared.stream.Failures.{Failures}
-use Rattle.combine_base.specs.declared.error.ParseResult.{ParseResult}
+use Rattle.combine_base.specs.declared.error.result.ParseResult.{ParseResult}
 use Rattle.combine_stream.specs.Range.Ranges.{size_of, IsItemPlace, UnconsRange}
 use Rattle.combine_range.specs.declared.distance.Distance.{Distance}
 use Rattle.combine_range.specs.KeptDistance.{kept, HandsOutRange, KeepsItemDistance}

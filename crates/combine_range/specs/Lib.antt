@@ -6,3 +6,5 @@ pub mod KeptDistance
 pub mod PeekedRefusals
 pub mod RangeReasons
 pub mod RangeTests
+pub mod LengthParsers
+pub mod Prefixes

@@ -5,8 +5,8 @@ use Rattle.combine_base.specs.Error.Items.{end_of_input}
 use Rattle.combine_base.specs.Refusals.{NoToken, HasItems}
 use Rattle.combine_base.specs.declared.stream.Kind.{Kind}
 use Rattle.combine_base.specs.declared.stream.Kind.TheVariants as kinds
-use Rattle.combine_base.specs.declared.error.ParseResult.{ParseResult}
-use Rattle.combine_base.specs.declared.error.ParseResult.TheVariants.{CommitOk, PeekOk, CommitErr, PeekErr}
+use Rattle.combine_base.specs.declared.error.result.ParseResult.{ParseResult}
+use Rattle.combine_base.specs.declared.error.result.ParseResult.TheVariants.{CommitOk, PeekOk, CommitErr, PeekErr}
 
 module _ {V E : Type 0} (kind : E → Kind) (never_allocates : Type 0) (is_open : Bool) where
   abbrev pub refuses_peeked : ParseResult V E → Type 0

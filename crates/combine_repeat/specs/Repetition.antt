@@ -2,14 +2,14 @@
 use Rattle.std.specs.Prelude.{None, ◌↔◌}
 use Rattle.combine_base.specs.Error.Errors.{Observers}
 use Rattle.combine_base.specs.Parser.Meaning.{Meaning}
-use Rattle.combine_repeat_turns.specs.Repeat.Repeated.{dropped, repeated}
-use Rattle.combine_repeat_turns.specs.Turns.Blocks.{Collecting}
-use Rattle.combine_repeat_turns.specs.declared.bounds.Bounds.TheVariants.{Unbounded, OwnFirst}
-use Rattle.combine_repeat_turns.specs.declared.turns.TurnsState.{TurnsState}
+use Rattle.combine_repeat.specs.Repeat.Repeated.{dropped, repeated}
+use Rattle.combine_repeat.specs.Turns.Blocks.{Collecting}
+use Rattle.combine_repeat.specs.declared.bounds.Bounds.TheVariants.{Unbounded, OwnFirst}
+use Rattle.combine_repeat.specs.declared.turns.TurnsState.{TurnsState}
 use Rattle.combine_base.specs.Stream.View.{View}
 use Rattle.combine_base.specs.Parser.Outcome.{Outcome}
-use Rattle.combine_repeat_turns.specs.Repeat.Counts.{DropsValues}
-use Rattle.combine_repeat_turns.specs.Repeat.OneThenTurns.{one_then_turns}
+use Rattle.combine_repeat.specs.Repeat.Counts.{DropsValues}
+use Rattle.combine_repeat.specs.Repeat.OneThenTurns.{one_then_turns}
 
 module _ {P T R E A V S : Type 0} (step : P → T → P) (errors : Observers T R P E) (c : Collecting A V) where
   -- turns, of which there need be none

@@ -14,9 +14,9 @@ use Rattle.combine_base.specs.Stream.View.{View}
 use Rattle.combine_base.proofs.Parsers.SameMeanings.{same_more, same_none}
 use Rattle.combine_base.proofs.Sequences.SequenceAnswers.{HoldsSecond, accepted_before, refused_before, runs_answer, stops_before}
 use Rattle.combine_base.proofs.Parsers.CallStarts.{at_rest, progress_here, progress_left}
-use Rattle.combine_base.specs.declared.error.ParseResult.{ParseResult}
-use Rattle.combine_base.specs.declared.error.ParseResult.TheVariants.{CommitOk, PeekOk, CommitErr, PeekErr}
-use Rattle.combine_base.specs.declared.error.Tracked.{Tracked}
+use Rattle.combine_base.specs.declared.error.result.ParseResult.{ParseResult}
+use Rattle.combine_base.specs.declared.error.result.ParseResult.TheVariants.{CommitOk, PeekOk, CommitErr, PeekErr}
+use Rattle.combine_base.specs.declared.error.tracked.Tracked.{Tracked}
 use Rattle.combine_base.specs.declared.parser.Parser as parser
 use Rattle.combine_base.specs.declared.sequence.SequencePlace.TheVariants.{Before, Last}
 use Rattle.combine_base.specs.declared.stream.StreamOnce as stream

@@ -7,9 +7,9 @@ use Rattle.combine_base.specs.Parser.Reasons.{ReasonedCall}
 use Rattle.combine_base.specs.Sequence.PartErrors.{RefusesLast, last_into}
 use Rattle.combine_base.specs.Sequence.Parts.{call_from}
 use Rattle.combine_base.proofs.Errors.MeantRefusals.{reasoned_at_rest, reasoned_error, reasoned_into, reasoned_meant, reasoned_refusal, runs_reasons}
-use Rattle.combine_base.specs.declared.error.ParseResult.{ParseResult}
-use Rattle.combine_base.specs.declared.error.ParseResult.TheVariants.{CommitErr, PeekErr}
-use Rattle.combine_base.specs.declared.error.Tracked.{Tracked}
+use Rattle.combine_base.specs.declared.error.result.ParseResult.{ParseResult}
+use Rattle.combine_base.specs.declared.error.result.ParseResult.TheVariants.{CommitErr, PeekErr}
+use Rattle.combine_base.specs.declared.error.tracked.Tracked.{Tracked}
 use Rattle.combine_base.specs.declared.parser.Parser as parser
 use Rattle.combine_base.specs.declared.stream.StreamOnce as stream
 use Rattle.combine_sequence.specs.Then.{then_meaning, CalledAnswered}

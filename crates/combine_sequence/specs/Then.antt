@@ -22,7 +22,7 @@ use Rattle.combine_sequence.specs.declared.sequence.answered.next_parser.ByValue
 use Rattle.combine_base.specs.Parser.Answer.{world}
 use Rattle.combine_base.specs.Sequence.Parts.{RunsLastPart}
 use Rattle.combine_base.specs.Stream.Calls.{Passes}
-use Rattle.combine_base.specs.declared.error.ParseResult.{ParseResult}
+use Rattle.combine_base.specs.declared.error.result.ParseResult.{ParseResult}
 use Rattle.combine_base.specs.declared.parser.Parser as parser
 use Rattle.combine_base.specs.declared.stream.StreamOnce as stream
 

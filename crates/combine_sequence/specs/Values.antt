@@ -6,7 +6,7 @@ use Rattle.combine_base.specs.Parser.Meaning.{Meaning}
 use Rattle.combine_base.specs.Sequence.Tuples.{tuple_2, tuple_3}
 use Rattle.combine_base.specs.declared.sequence.SequenceState.{SequenceState}
 use Rattle.combine_base.specs.declared.sequence.PartialState2.{PartialState2}
-use Rattle.combine_base.specs.declared.sequence.PartialState3.{PartialState3}
+use Rattle.combine_base.specs.declared.sequence.states.PartialState3.{PartialState3}
 
 module _ {P T R E A B U V : Type 0} (step : P → T → P) (errors : Observers T R P E) (m : Meaning P T R E A U) (n : Meaning P T R E B V) where
   -- one part and then another, with the value of the first

@@ -8,8 +8,8 @@ use Rattle.combine_base.specs.Parser.DriverAnswers.{IsRefusal, answer_to}
 use Rattle.combine_base.specs.declared.stream.fed.Stream.{Stream}
 use Rattle.combine_base.specs.declared.stream.Kind.{Kind}
 use Rattle.combine_base.specs.declared.stream.Kind.TheVariants as kinds
-use Rattle.combine_base.specs.declared.error.ParseResult.{ParseResult}
-use Rattle.combine_base.specs.declared.error.UnexpectedParse.{UnexpectedParse}
+use Rattle.combine_base.specs.declared.error.result.ParseResult.{ParseResult}
+use Rattle.combine_base.specs.declared.error.unexpected.UnexpectedParse.{UnexpectedParse}
 use Rattle.combine_base.specs.declared.parser.answer.Answer.{Answer}
 use Rattle.combine_base.specs.declared.parser.answer.Answer.TheVariants as answers
 use Rattle.combine_session.specs.declared.session.SessionError.{SessionError}

@@ -3,3 +3,4 @@ pub mod OneToken
 pub mod PureValues
 pub mod Stateless
 pub mod TokenReasons
+pub mod TwoAdditions

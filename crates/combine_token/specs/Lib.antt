@@ -7,5 +7,4 @@ pub use Rattle.combine_base.specs.Parser.Outcome
 pub use Rattle.combine_base.specs.Stream.Calls
 pub use Rattle.combine_base.specs.Stream.View
 pub use Rattle.combine_base.specs.Predicates
-pub mod Choice
 pub mod Token

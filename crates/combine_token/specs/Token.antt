@@ -5,4 +5,5 @@ pub mod OneToken
 pub mod PureValues
 pub mod Stateless
 pub mod TokenParsers
+pub mod Together
 pub mod TokenReasons

@@ -1,5 +1,4 @@
 //! Parsers of single tokens and of token lists, values that take none, and choices among parsers.
 #![tactic(auto)]
 
-pub mod choice;
 pub mod token;

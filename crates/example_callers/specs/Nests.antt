@@ -10,11 +10,11 @@ use Rattle.combine_base.specs.Parser.Outcome.{Outcome, Accepted, Refused, Undeci
 use Rattle.combine_base.specs.Sequence.JoinedOutcome.{joined}
 use Rattle.combine_base.specs.Sequence.Readings.{SecondIsSingle, continues, following, following_is_reading, sequel, sequel_is_reading, sequel_is_single}
 use Rattle.combine_base.specs.Sequence.Tuples.{push_0, push_1}
-use Rattle.combine_token.specs.Choice.Choices.{OrElse, Here, Later}
+use Rattle.combine_choice.specs.Choice.Choices.{OrElse, Here, Later}
 use Rattle.combine_token.specs.Token.OneToken.{of_function, of_function_is_predicate, one_token, one_token_at, satisfied, satisfied_is_test, takes_one, takes_one_is_meaning, takes_one_means_one}
-use Rattle.combine_token.specs.Choice.Optional.{is_some, nothing_taken, optional_is_meaning, optional_means_one}
+use Rattle.combine_choice.specs.Choice.Optional.{is_some, nothing_taken, optional_is_meaning, optional_means_one}
 use Rattle.combine_token.specs.Token.Stateless.{stateless, stateless_is_meaning, stateless_means_one}
-use Rattle.combine_base.specs.declared.error.UnexpectedParse.{UnexpectedParse}
+use Rattle.combine_base.specs.declared.error.unexpected.UnexpectedParse.{UnexpectedParse}
 
 -- the value of the second of two parts
 abbrev pub second : {A B : Type 0} → A → B → B

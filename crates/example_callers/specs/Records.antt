@@ -1,6 +1,6 @@
 -- what the bytes of a record are
 use Rattle.std.specs.Prelude.{ℕ, ◌≡◌, List, ◌∷◌, ◌++◌, length}
-use Rattle.combine_byte_num.specs.Numbers.{big_endian}
+use Rattle.combine_byte.specs.Numbers.{big_endian}
 use Rattle.example_callers.specs.declared.records.Record.{Record}
 
 -- its kind, the length of its text in two bytes, the highest first, and its text, and what stands behind them

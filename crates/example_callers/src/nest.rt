@@ -2,14 +2,14 @@
 ghost use Rattle.std.specs.Prelude.{◌≡◌, ◌<◌, true};
 ghost use Rattle.combine_base.specs.Sequence.Parts.{joined_answer};
 ghost use Rattle.example_callers.specs.Nests.{closed as closed_round, inside as inside_of, nest as nest_of, nests, nests_is_meaning, nests_means_one, opened as opened_by};
-ghost use Rattle.combine_combinator_function.specs.Once.{RunsOnce};
+ghost use Rattle.combine_function.specs.Once.{RunsOnce};
 
 use combine_base::error::{ErrorOffset, ParseError, ParseResult, Tracked};
 use combine_base::parser::{Outputs, ParseMode, Parser};
 use combine_base::refusal::refusal_saying;
 use combine_base::stream::{Positioned, ResetStream, Stream, StreamOnce, needs_more};
+use combine_choice::or::optional;
 use combine_combinator::combinator::map;
-use combine_token::choice::optional;
 use combine_token::token::token;
 
 /// How many brackets stand inside one another, at most so deep: none where no opening bracket stands.
@@ -116,15 +116,7 @@ where
 {
     type PartialState = ();
 
-    ghost lawful = { λ p. Unit {0} };
-
-    ghost determined = { λ p. Unit {0} };
-
-    ghost valid = { λ s. Unit {0} };
-
     ghost meaning = { λ p. nests Input.step p.0 };
-
-    ghost parts = { λ p. 1 };
 
     fn parse_mode<M: ParseMode>(
         &mut self,

@@ -12,12 +12,12 @@ use Rattle.combine_decode.specs.declared.decode.BatchEnd.{BatchEnd}
 use Rattle.combine_decode.specs.declared.decode.BatchEnd.TheVariants as ends
 use Rattle.combine_token.specs.Token.TokenParsers.{any_parser}
 use Rattle.combine_token.specs.declared.token.types.Any.{Any}
-use Rattle.combine_repeat_turns.specs.Repeat.RepeatParsers.{count_min_max_of, repeat_min, repeat_max}
-use Rattle.combine_repeat_turns.specs.Repeat.Repeated.{appended}
-use Rattle.combine_repeat_turns.specs.Repeat.Counts.{count_min_max}
-use Rattle.combine_repeat_turns.specs.declared.each.Each.{Each}
-use Rattle.combine_repeat_turns.specs.declared.repeat.Repeat.{Repeat}
-use Rattle.combine_repeat_turns.specs.declared.bounds.MinToMax.{MinToMax}
+use Rattle.combine_repeat.specs.Repeat.RepeatParsers.{count_min_max_of, repeat_min, repeat_max}
+use Rattle.combine_repeat.specs.Repeat.Repeated.{appended}
+use Rattle.combine_repeat.specs.Repeat.Counts.{count_min_max}
+use Rattle.combine_repeat.specs.declared.each.Each.{Each}
+use Rattle.combine_repeat.specs.declared.counts.Repeat.{Repeat}
+use Rattle.combine_repeat.specs.declared.bounds.MinToMax.{MinToMax}
 use Rattle.feedline_core.specs.DecodedLines.{DecodesInput, PrintsMessages}
 use Rattle.feedline_core.specs.Frames.{bytes, frame, length_before}
 use Rattle.feedline_core.specs.Messages.{byte_where, step}

@@ -8,7 +8,7 @@ use Rattle.combine_base.specs.Parser.Meaning.{Reading}
 use Rattle.combine_session.specs.Pieces.{concatenated, AsksAfterFirst, Decided, undecided_at}
 use Rattle.combine_session.specs.Sessions.{admits}
 use Rattle.combine_session.proofs.Pieces.{concatenated_more}
-use Rattle.combine_base.specs.declared.error.UnexpectedParse.{UnexpectedParse}
+use Rattle.combine_base.specs.declared.error.unexpected.UnexpectedParse.{UnexpectedParse}
 use Rattle.combine_base.specs.declared.parser.answer.Answer.{Answer}
 use Rattle.combine_base.specs.declared.parser.answer.Answer.TheVariants as answers
 use Rattle.feedline_core.specs.Lines.{more_line}

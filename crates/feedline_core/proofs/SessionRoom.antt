@@ -8,7 +8,7 @@ use Rattle.combine_session.specs.Pieces.{concatenated, on, undecided_at}
 use Rattle.combine_session.specs.Sessions.{Course, Feeds, admits, by_stage}
 use Rattle.combine_session.specs.Sessions as session
 use Rattle.combine_session.proofs.Pieces.{AskedAfterPieces, no_longer}
-use Rattle.combine_base.specs.declared.error.UnexpectedParse.{UnexpectedParse}
+use Rattle.combine_base.specs.declared.error.unexpected.UnexpectedParse.{UnexpectedParse}
 use Rattle.combine_base.specs.declared.parser.answer.Answer.{Answer}
 use Rattle.combine_base.specs.declared.parser.answer.Answer.TheVariants as answers
 use Rattle.combine_session.specs.declared.session.SessionError.{SessionError}

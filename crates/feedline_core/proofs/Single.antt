@@ -8,13 +8,13 @@ use Rattle.combine_base.specs.Error.Items.{Expected, OfToken}
 use Rattle.combine_base.specs.Error.NoItems.{no_items}
 use Rattle.combine_base.specs.Sequence.Places.{valid_in, valid_1, place_2, place_3, place_4}
 use Rattle.combine_base.specs.Sequence.Tuples.{push_1, push_2, push_3, tuple_3, tuple_4, tuple_1_means_one, followed_means_one}
-use Rattle.combine_token.specs.Choice.Choices.{OrElse, refused, refused_is_single, either_is_single}
+use Rattle.combine_choice.specs.Choice.Choices.{OrElse, refused, refused_is_single, either_is_single}
 use Rattle.combine_token.specs.Token.OneToken.{of_function, of_function_is_predicate, satisfied, satisfied_is_test, takes_one_means_one}
 use Rattle.combine_combinator.specs.Attempt.{attempted_means_one}
-use Rattle.combine_repeat_turns.specs.Repeat.Repeated.{appended, repeated_means_one}
-use Rattle.combine_repeat_turns.specs.declared.bounds.Bounds.TheVariants.{OwnFirst}
-use Rattle.combine_repeat_turns.specs.declared.turns.TurnsState.{TurnsState}
-use Rattle.combine_base.specs.declared.error.UnexpectedParse.{UnexpectedParse}
+use Rattle.combine_repeat.specs.Repeat.Repeated.{appended, repeated_means_one}
+use Rattle.combine_repeat.specs.declared.bounds.Bounds.TheVariants.{OwnFirst}
+use Rattle.combine_repeat.specs.declared.turns.TurnsState.{TurnsState}
+use Rattle.combine_base.specs.declared.error.unexpected.UnexpectedParse.{UnexpectedParse}
 use Rattle.feedline_core.specs.Messages.{step, byte_meaning, byte_where, bytes_where, delete, set, message}
 use Rattle.feedline_core.specs.declared.message.Message.TheVariants.{Set, Delete}
 

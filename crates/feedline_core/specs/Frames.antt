@@ -4,10 +4,10 @@ use Rattle.std.specs.Global.{Vec}
 use Rattle.combine_base.specs.Error.NoItems.{no_items}
 use Rattle.combine_base.specs.Parser.Meaning.{Reading}
 use Rattle.combine_base.specs.Sequence.Readings.{sequel}
-use Rattle.combine_byte_num.specs.Numbers.{big_endian}
-use Rattle.combine_byte_num.specs.WholeNumbers.{whole_number}
-use Rattle.combine_repeat_turns.specs.Repeat.Repeated.{appended}
-use Rattle.combine_repeat_turns.specs.Repeat.Counts.{count_min_max}
+use Rattle.combine_byte.specs.Numbers.{big_endian}
+use Rattle.combine_byte.specs.WholeNumbers.{whole_number}
+use Rattle.combine_repeat.specs.Repeat.Repeated.{appended}
+use Rattle.combine_repeat.specs.Repeat.Counts.{count_min_max}
 use Rattle.feedline_core.specs.Messages.{step, byte_where}
 
 -- a number of two bytes, the highest first

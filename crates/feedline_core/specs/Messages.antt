@@ -9,19 +9,19 @@ use Rattle.combine_base.specs.Error.Errors.{AddsNothing, Only}
 use Rattle.combine_base.specs.Error.Items.{Expected, OfToken}
 use Rattle.combine_base.specs.Error.NoItems.{no_items}
 use Rattle.combine_base.specs.Sequence.Tuples.{tuple_3, tuple_4}
-use Rattle.combine_token.specs.Choice.Alternatives.{both_merged}
-use Rattle.combine_token.specs.Choice.Or.{either_of}
+use Rattle.combine_choice.specs.Choice.Alternatives.{both_merged}
+use Rattle.combine_choice.specs.Choice.Or.{either_of}
 use Rattle.combine_token.specs.Token.OneToken.{of_function, satisfied, takes_one}
-use Rattle.combine_base.specs.declared.error.UnexpectedParse.{UnexpectedParse}
+use Rattle.combine_base.specs.declared.error.unexpected.UnexpectedParse.{UnexpectedParse}
 use Rattle.combine_base.specs.declared.sequence.SequenceState.{SequenceState}
-use Rattle.combine_base.specs.declared.sequence.PartialState3.{PartialState3}
-use Rattle.combine_base.specs.declared.sequence.PartialState4.{PartialState4}
-use Rattle.combine_token.specs.declared.choice.OrState.{OrState}
+use Rattle.combine_base.specs.declared.sequence.states.PartialState3.{PartialState3}
+use Rattle.combine_base.specs.declared.sequence.states.PartialState4.{PartialState4}
+use Rattle.combine_choice.specs.declared.or.OrState.{OrState}
 use Rattle.combine_combinator.specs.Attempt.{attempted}
-use Rattle.combine_combinator.specs.declared.combinator.TryState.{TryState}
+use Rattle.combine_combinator.specs.declared.combinator.types.TryState.{TryState}
 use Rattle.combine_repeat.specs.Repetition.{many1}
-use Rattle.combine_repeat_turns.specs.Repeat.Repeated.{appended}
-use Rattle.combine_repeat_turns.specs.declared.turns.TurnsState.{TurnsState}
+use Rattle.combine_repeat.specs.Repeat.Repeated.{appended}
+use Rattle.combine_repeat.specs.declared.turns.TurnsState.{TurnsState}
 use Rattle.feedline_core.specs.declared.message.Message.{Message}
 use Rattle.feedline_core.specs.declared.message.Message.TheVariants.{Set, Delete}
 

@@ -9,8 +9,8 @@ use Rattle.combine_base.proofs.Parsers.Progress.{takes_open}
 use Rattle.combine_base.specs.declared.stream.Failures.{Failures}
 use Rattle.combine_base.specs.declared.stream.Kind.{Kind}
 use Rattle.combine_base.specs.declared.stream.Kind.TheVariants as kinds
-use Rattle.combine_base.specs.declared.error.ParseResult.{ParseResult}
-use Rattle.combine_base.specs.declared.error.ParseResult.TheVariants.{CommitOk, PeekOk, CommitErr, PeekErr}
+use Rattle.combine_base.specs.declared.error.result.ParseResult.{ParseResult}
+use Rattle.combine_base.specs.declared.error.result.ParseResult.TheVariants.{CommitOk, PeekOk, CommitErr, PeekErr}
 use Rattle.tests_promises.specs.NeedsOfMore.{AsksExactly, is_fault_kind}
 
 module _ {P T R V S E : Type 0} (w : World P T S E) (m : Meaning P T R E V S) (h : IsSingle m.whole) (state left : S) (old new : View P T) (before after : Failures) where

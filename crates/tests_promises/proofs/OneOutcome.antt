@@ -4,12 +4,12 @@ use Rattle.combine_base.specs.Error.Errors.{AddsNothing}
 use Rattle.combine_base.specs.Error.NoItems.{no_items}
 use Rattle.combine_base.specs.Parser.Meaning.{IsSingle, Reading}
 use Rattle.combine_base.specs.Parser.Outcome.{Accepted}
-use Rattle.combine_byte_num.specs.WholeNumbers.{whole_number}
-use Rattle.combine_combinator_function.specs.Changes.{DecidesOne}
-use Rattle.combine_repeat_turns.specs.Repeat.Repeated.{repeated_means_one}
-use Rattle.combine_repeat_turns.specs.Repeat.Counts.{count_min_max}
-use Rattle.combine_repeat_turns.specs.Turns.Blocks.{Collecting}
-use Rattle.combine_repeat_turns.specs.declared.bounds.Bounds.TheVariants.{Counted}
+use Rattle.combine_byte.specs.WholeNumbers.{whole_number}
+use Rattle.combine_function.specs.Changes.{DecidesOne}
+use Rattle.combine_repeat.specs.Repeat.Repeated.{repeated_means_one}
+use Rattle.combine_repeat.specs.Repeat.Counts.{count_min_max}
+use Rattle.combine_repeat.specs.Turns.Blocks.{Collecting}
+use Rattle.combine_repeat.specs.declared.bounds.Bounds.TheVariants.{Counted}
 use Rattle.combine_sequence.specs.Then as second
 use Rattle.combine_token.specs.Token.OneToken.{of_function, of_function_is_predicate, one_token, one_token_at, satisfied, satisfied_is_test, takes_one, takes_one_means_one}
 

@@ -6,8 +6,8 @@ use Rattle.combine_base.specs.Parser.Meaning.{Reading}
 use Rattle.combine_base.specs.Parser.Outcome.{Undecided}
 use Rattle.combine_base.specs.declared.stream.Kind.{Kind}
 use Rattle.combine_base.specs.declared.stream.Kind.TheVariants as kinds
-use Rattle.combine_base.specs.declared.error.ParseResult.{ParseResult}
-use Rattle.combine_base.specs.declared.error.ParseResult.TheVariants.{CommitOk, PeekOk, CommitErr, PeekErr}
+use Rattle.combine_base.specs.declared.error.result.ParseResult.{ParseResult}
+use Rattle.combine_base.specs.declared.error.result.ParseResult.TheVariants.{CommitOk, PeekOk, CommitErr, PeekErr}
 
 -- the kinds of faults
 abbrev pub is_fault_kind : Kind → Type 0

@@ -1,6 +1,6 @@
 //! Parsers that a caller's function answers.
 ghost use Rattle.std.specs.Prelude.{◌≡◌};
-ghost use Rattle.combine_choice_dispatch.specs.declared.variants.either.Either.TheVariants.{Left};
+ghost use Rattle.combine_choice.specs.declared.variants.either.Either.TheVariants.{Left};
 ghost use Rattle.combine_token.specs.Token.TokenParsers.{any_parser, token_parser};
 
 use crate::promises::{keeps, keeps_without_memory};

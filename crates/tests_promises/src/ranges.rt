@@ -1,6 +1,6 @@
 //! Parsers of ranges, and searches.
 ghost use Rattle.std.specs.Prelude.{◌≡◌};
-ghost use Rattle.combine_range_search.specs.declared.search.TakeRange.TheVariants.{Found};
+ghost use Rattle.combine_byte.specs.declared.search.TakeRange.TheVariants.{Found};
 
 use crate::promises::puts_back_without_memory;
 use combine::error::ParseError;

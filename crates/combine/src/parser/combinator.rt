@@ -2,16 +2,14 @@
 
 pub mod types;
 
-pub use combine_choice_dispatch::variants::Either;
+pub use combine_choice::variants::Either;
 pub use combine_combinator::combinator::{
     TryState, attempt, ignore, laws, look_ahead, map, no_partial, not_followed_by,
 };
-pub use combine_combinator_function::combinator::{
-    StrLike, and_then, flat_map, from_str, map_input,
-};
-pub use combine_combinator_lazy::combinator::types::MadeState;
-pub use combine_combinator_lazy::combinator::{factory, lazy};
-pub use combine_combinator_lazy::laws::make_and_parse;
-pub use combine_combinator_recognize::combinator::recognize;
-pub use combine_combinator_recognize::combinator::types::RecognizeState;
-pub use combine_combinator_spanned::combinator::spanned;
+pub use combine_combinator::lazy::types::MadeState;
+pub use combine_combinator::lazy::{factory, lazy};
+pub use combine_combinator::lazy_laws::make_and_parse;
+pub use combine_combinator::recognize::recognize;
+pub use combine_combinator::recognize::types::RecognizeState;
+pub use combine_error::spanned::spanned;
+pub use combine_function::combinator::{StrLike, and_then, flat_map, from_str, map_input};

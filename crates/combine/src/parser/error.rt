@@ -2,5 +2,5 @@
 
 pub mod types;
 
-pub use combine_combinator_function::error::{unexpected, unexpected_any};
 pub use combine_error::error::{expected, message, silent};
+pub use combine_error::unexpected::{unexpected, unexpected_any};

@@ -6,8 +6,8 @@ use Rattle.combine_base.specs.Parser.Answer.{CallRecord, World, Answers, Refuses
 use Rattle.combine_base.proofs.Parsers.Progress.{takes_more, takes_open}
 use Rattle.combine_base.specs.declared.stream.Kind.{Kind}
 use Rattle.combine_base.specs.declared.stream.Kind.TheVariants as kinds
-use Rattle.combine_base.specs.declared.error.Tracked.{Tracked}
-use Rattle.combine_base.specs.declared.error.ParseResult.TheVariants.{CommitErr, PeekErr}
+use Rattle.combine_base.specs.declared.error.tracked.Tracked.{Tracked}
+use Rattle.combine_base.specs.declared.error.result.ParseResult.TheVariants.{CommitErr, PeekErr}
 
 module _ {P T R A S E : Type 0} (w : World P T S E) (m : Meaning P T R E A S) (r : CallRecord P T S) where
   pub peeked_refusal : (k : Kind) → peeks w m r k → Refuses w m r false

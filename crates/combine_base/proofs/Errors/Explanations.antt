@@ -17,9 +17,9 @@ use Rattle.combine_base.proofs.Parsers.Progress.{takes_more, takes_none, moves_m
 use Rattle.combine_base.specs.declared.stream.Kind.{Kind}
 use Rattle.combine_base.specs.declared.stream.Kind.TheVariants as kinds
 use Rattle.combine_base.specs.declared.stream.Failures.{Failures}
-use Rattle.combine_base.specs.declared.error.Tracked.{Tracked}
-use Rattle.combine_base.specs.declared.error.ParseResult.{ParseResult}
-use Rattle.combine_base.specs.declared.error.ParseResult.TheVariants.{CommitOk, PeekOk, CommitErr, PeekErr}
+use Rattle.combine_base.specs.declared.error.tracked.Tracked.{Tracked}
+use Rattle.combine_base.specs.declared.error.result.ParseResult.{ParseResult}
+use Rattle.combine_base.specs.declared.error.result.ParseResult.TheVariants.{CommitOk, PeekOk, CommitErr, PeekErr}
 
 module _ {P T R V S E : Type 0} (s : Observers T R P E) (m m' : Meaning P T R E V S) (h : MeansSame m m') (refuses : Refusing P T E) (old left new : View P T) (e own : E) where
   -- the parser means the same after its call

@@ -14,9 +14,9 @@ use Rattle.combine_base.specs.Sequence.Tuples.{followed, tuple_1}
 use Rattle.combine_base.specs.Parser.Outcome.{Refused}
 use Rattle.combine_base.specs.Stream.View.{View}
 use Rattle.combine_base.proofs.Errors.CallErrors.{peeked_refusal, same_mark}
-use Rattle.combine_base.specs.declared.error.ParseResult.{ParseResult}
-use Rattle.combine_base.specs.declared.error.ParseResult.TheVariants.{CommitOk, PeekOk, CommitErr, PeekErr}
-use Rattle.combine_base.specs.declared.error.Tracked.{Tracked}
+use Rattle.combine_base.specs.declared.error.result.ParseResult.{ParseResult}
+use Rattle.combine_base.specs.declared.error.result.ParseResult.TheVariants.{CommitOk, PeekOk, CommitErr, PeekErr}
+use Rattle.combine_base.specs.declared.error.tracked.Tracked.{Tracked}
 use Rattle.combine_base.specs.declared.sequence.PartialState1.{PartialState1}
 use Rattle.combine_base.specs.declared.sequence.SequencePlace.{SequencePlace}
 use Rattle.combine_base.specs.declared.sequence.SequencePlace.TheVariants.{Before, Last}

@@ -10,8 +10,8 @@ use Rattle.combine_base.proofs.Parsers.Progress.{Progress, takes_none, resumes_n
 use Rattle.combine_base.specs.declared.stream.Kind.{Kind}
 use Rattle.combine_base.specs.declared.stream.Kind.TheVariants as kinds
 use Rattle.combine_base.specs.declared.stream.Failures.{Failures}
-use Rattle.combine_base.specs.declared.error.ParseResult.{ParseResult}
-use Rattle.combine_base.specs.declared.error.ParseResult.TheVariants.{CommitOk, PeekOk, CommitErr, PeekErr}
+use Rattle.combine_base.specs.declared.error.result.ParseResult.{ParseResult}
+use Rattle.combine_base.specs.declared.error.result.ParseResult.TheVariants.{CommitOk, PeekOk, CommitErr, PeekErr}
 
 -- an error is need of more, or it isn't
 pub need_or_not : (k : Kind) (b : Bool) → ((k ≡ kinds.End) × (b ≡ true)) ⊎ ((k ≡ kinds.End) × (b ≡ true) → ⊥)

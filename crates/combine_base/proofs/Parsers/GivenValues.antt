@@ -5,7 +5,7 @@ use Rattle.combine_base.specs.Parser.Outcome.{Accepted}
 use Rattle.combine_base.specs.Parser.Meaning.{Meaning, MeansSame, begun}
 use Rattle.combine_base.specs.Parser.Answer.{World, CallRecord, Answers}
 use Rattle.combine_base.specs.Parser.GivenValues.{GivesOnly}
-use Rattle.combine_base.specs.declared.error.ParseResult.TheVariants.{CommitOk, PeekOk}
+use Rattle.combine_base.specs.declared.error.result.ParseResult.TheVariants.{CommitOk, PeekOk}
 
 module _ {Position Token Range Error Value State : Type 0} (valid : State → Type 0) (m : Meaning Position Token Range Error Value State) (good : Value → Type 0) where
   begun_good : GivesOnly valid m good → (first : Bool) (s : State) → valid s → (v : View Position Token) (a : Value) (n : ℕ) (c : Bool) → begun m first s v (Accepted a n c) → good a

@@ -8,8 +8,8 @@ use Rattle.combine_base.specs.Stream.Calls.{Passes}
 use Rattle.combine_base.specs.declared.stream.Kind.{Kind}
 use Rattle.combine_base.specs.declared.stream.Kind.TheVariants as kinds
 use Rattle.combine_base.specs.declared.stream.Failures.{Failures}
-use Rattle.combine_base.specs.declared.error.ParseResult.{ParseResult}
-use Rattle.combine_base.specs.declared.error.ParseResult.TheVariants.{CommitOk, PeekOk, CommitErr, PeekErr}
+use Rattle.combine_base.specs.declared.error.result.ParseResult.{ParseResult}
+use Rattle.combine_base.specs.declared.error.result.ParseResult.TheVariants.{CommitOk, PeekOk, CommitErr, PeekErr}
 
 pub passes_none : {C V : Type 0} (a : C → V → Type 0) (f : Failures) → Passes a a f f
 passes_none a f = record { marks = λ c v p. p; reads = omega arith; resets = omega arith }

@@ -7,8 +7,8 @@ use Rattle.combine_base.specs.Parser.ValueMap.{mapped, mapped_reading}
 use Rattle.combine_base.specs.Parser.Answer.{Resumes, CallRecord, World, Answers, Accepts, Refuses, Asks, fails, peeks, asks_or_refuses, loses}
 use Rattle.combine_base.specs.declared.stream.Kind.{Kind}
 use Rattle.combine_base.specs.declared.stream.Kind.TheVariants as kinds
-use Rattle.combine_base.specs.declared.error.Tracked.{Tracked}
-use Rattle.combine_base.specs.declared.error.ParseResult.TheVariants.{CommitOk, PeekOk, CommitErr, PeekErr}
+use Rattle.combine_base.specs.declared.error.tracked.Tracked.{Tracked}
+use Rattle.combine_base.specs.declared.error.result.ParseResult.TheVariants.{CommitOk, PeekOk, CommitErr, PeekErr}
 
 module _ {P T R A B S E : Type 0} (w : World P T S E) (m : Meaning P T R E A S) (f : A → B → Type 0) where
   begun_refused : (first : Bool) (s : S) (v : View P T) (k : Bool) → begun m first s v (Refused k) → begun (mapped m f) first s v (Refused k)

@@ -14,8 +14,8 @@ use Rattle.combine_base.specs.Stream.View.{View}
 use Rattle.combine_base.proofs.Errors.MeantRefusals.{last_reasons, sequence_reasons}
 use Rattle.combine_base.proofs.Parsers.SameMeanings.{passes_more, same_none}
 use Rattle.combine_base.proofs.Sequences.SequenceAnswers.{last_answers, last_leaves, sequence_answers, sequence_leaves}
-use Rattle.combine_base.specs.declared.error.ParseResult.{ParseResult}
-use Rattle.combine_base.specs.declared.error.ParseResult.TheVariants.{CommitOk, PeekOk, CommitErr, PeekErr}
+use Rattle.combine_base.specs.declared.error.result.ParseResult.{ParseResult}
+use Rattle.combine_base.specs.declared.error.result.ParseResult.TheVariants.{CommitOk, PeekOk, CommitErr, PeekErr}
 use Rattle.combine_base.specs.declared.parser.Parser as parser
 use Rattle.combine_base.specs.declared.sequence.SequencePlace.{SequencePlace}
 use Rattle.combine_base.specs.declared.sequence.SequencePlace.TheVariants as places

@@ -14,8 +14,8 @@ use Rattle.combine_base.proofs.Parsers.CallStarts.{need_or_not, progress_here, t
 use Rattle.combine_base.proofs.Sequences.SequenceResumes.{following_resumes}
 use Rattle.combine_base.specs.declared.stream.Kind.TheVariants as kinds
 use Rattle.combine_base.specs.declared.stream.Failures.{Failures}
-use Rattle.combine_base.specs.declared.error.Tracked.{Tracked}
-use Rattle.combine_base.specs.declared.error.ParseResult.TheVariants.{CommitOk, PeekOk, CommitErr, PeekErr}
+use Rattle.combine_base.specs.declared.error.tracked.Tracked.{Tracked}
+use Rattle.combine_base.specs.declared.error.result.ParseResult.TheVariants.{CommitOk, PeekOk, CommitErr, PeekErr}
 use Rattle.combine_base.specs.declared.sequence.SequenceState.{SequenceState}
 use Rattle.combine_base.specs.declared.sequence.PartialState1.{PartialState1}
 use Rattle.combine_base.specs.declared.sequence.PartialState1.TheVariants as one

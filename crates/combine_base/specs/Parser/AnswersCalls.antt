@@ -4,7 +4,7 @@ use Rattle.combine_base.specs.Error.Errors.{Observers}
 use Rattle.combine_base.specs.Parser.Answer.{Answers, CallRecord, world}
 use Rattle.combine_base.specs.Parser.Drivers.{Results, StartResults}
 use Rattle.combine_base.specs.Parser.Meaning.{Meaning}
-use Rattle.combine_base.specs.declared.error.ParseResult.{ParseResult}
+use Rattle.combine_base.specs.declared.error.result.ParseResult.{ParseResult}
 use Rattle.combine_base.specs.declared.stream.StreamOnce as stream
 
 -- a call begun afresh or from a state, with the state and the stream before and after it

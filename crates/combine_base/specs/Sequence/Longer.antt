@@ -6,16 +6,16 @@ use Rattle.combine_base.specs.Sequence.Tuples.{followed, followed_is_meaning, fo
 use Rattle.combine_base.specs.declared.sequence.SequenceState.{SequenceState}
 use Rattle.combine_base.specs.declared.sequence.SequencePlace.{SequencePlace}
 use Rattle.combine_base.specs.declared.sequence.SequencePlace.TheVariants.{Before, Last}
-use Rattle.combine_base.specs.declared.sequence.PartialState4.{PartialState4}
-use Rattle.combine_base.specs.declared.sequence.PartialState4.TheVariants as four
-use Rattle.combine_base.specs.declared.sequence.PartialState5.{PartialState5}
-use Rattle.combine_base.specs.declared.sequence.PartialState5.TheVariants as five
-use Rattle.combine_base.specs.declared.sequence.PartialState6.{PartialState6}
-use Rattle.combine_base.specs.declared.sequence.PartialState6.TheVariants as six
-use Rattle.combine_base.specs.declared.sequence.PartialState7.{PartialState7}
-use Rattle.combine_base.specs.declared.sequence.PartialState7.TheVariants as seven
-use Rattle.combine_base.specs.declared.sequence.PartialState8.{PartialState8}
-use Rattle.combine_base.specs.declared.sequence.PartialState8.TheVariants as eight
+use Rattle.combine_base.specs.declared.sequence.states.PartialState4.{PartialState4}
+use Rattle.combine_base.specs.declared.sequence.states.PartialState4.TheVariants as four
+use Rattle.combine_base.specs.declared.sequence.states.PartialState5.{PartialState5}
+use Rattle.combine_base.specs.declared.sequence.states.PartialState5.TheVariants as five
+use Rattle.combine_base.specs.declared.sequence.states.PartialState6.{PartialState6}
+use Rattle.combine_base.specs.declared.sequence.states.PartialState6.TheVariants as six
+use Rattle.combine_base.specs.declared.sequence.states.PartialState7.{PartialState7}
+use Rattle.combine_base.specs.declared.sequence.states.PartialState7.TheVariants as seven
+use Rattle.combine_base.specs.declared.sequence.states.PartialState8.{PartialState8}
+use Rattle.combine_base.specs.declared.sequence.states.PartialState8.TheVariants as eight
 
 -- five parts: which runs, which states begin them and which are valid
 abbrev pub place_5 : {A B C D E : Type 0} → PartialState5 A B C D E → SequencePlace (PartialState4 A B C D) E

@@ -8,7 +8,7 @@ use Rattle.combine_base.specs.Sequence.Parts.{call_from}
 use Rattle.combine_base.specs.Sequence.Places.{begins_sequence, valid_in}
 use Rattle.combine_base.specs.Sequence.Tuples.{followed}
 use Rattle.combine_base.specs.Stream.Calls.{Passes}
-use Rattle.combine_base.specs.declared.error.ParseResult.{ParseResult}
+use Rattle.combine_base.specs.declared.error.result.ParseResult.{ParseResult}
 use Rattle.combine_base.specs.declared.parser.Parser as parser
 use Rattle.combine_base.specs.declared.sequence.SequencePlace.{SequencePlace}
 use Rattle.combine_base.specs.declared.sequence.SequenceState.{SequenceState}

@@ -9,8 +9,8 @@ use Rattle.combine_base.specs.declared.sequence.SequenceState.{SequenceState}
 use Rattle.combine_base.specs.declared.sequence.SequencePlace.{SequencePlace}
 use Rattle.combine_base.specs.declared.sequence.PartialState1.{PartialState1}
 use Rattle.combine_base.specs.declared.sequence.PartialState2.{PartialState2}
-use Rattle.combine_base.specs.declared.sequence.PartialState3.{PartialState3}
-use Rattle.combine_base.specs.declared.sequence.PartialState4.{PartialState4}
+use Rattle.combine_base.specs.declared.sequence.states.PartialState3.{PartialState3}
+use Rattle.combine_base.specs.declared.sequence.states.PartialState4.{PartialState4}
 
 -- a tuple with one more value
 abbrev pub push_0 : {A : Type 0} → Unit {0} → A → record { 0 : A }

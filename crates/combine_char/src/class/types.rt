@@ -1,12 +1,16 @@
-//! The parser that `in_class` returns.
+//! The parsers that the functions of this module return.
 ghost use Rattle.std.specs.Prelude.{◌≡◌};
 ghost use Rattle.combine_char.specs.Classes.{takes_member};
 ghost use Rattle.combine_token.specs.Token.OneToken.{of_function, of_function_is_predicate, satisfied, satisfied_is_test, takes_one_is_meaning, takes_one_means_one};
 
-use crate::class::Class;
+use crate::class::{Class, classes};
+use crate::named::Named;
+use crate::pair::WholePair;
+use crate::texts;
 use combine_base::error::{ErrorOffset, Info, ParseError, ParseResult, Tracked};
 use combine_base::parser::{Outputs, ParseMode, Parser};
 use combine_base::stream::{Stream, StreamOnce};
+use combine_repeat::many::types::SkipMany;
 use combine_token::token::reading::token_if;
 use std::marker::PhantomData;
 
@@ -27,15 +31,7 @@ impl<Input: StreamOnce, C> Outputs<Input> for ClassParser<Input, C> {
 impl<Input: Stream, C: Class<Input::Token>> Parser<Input> for ClassParser<Input, C> {
     type PartialState = ();
 
-    ghost lawful = { λ p. Unit {0} };
-
-    ghost determined = { λ p. Unit {0} };
-
-    ghost valid = { λ s. Unit {0} };
-
     ghost meaning = { λ p. takes_member Input.Error.observers C.members C.bytes };
-
-    ghost parts = { λ p. 1 };
 
     #[inline(always)]
     fn parse_mode<M: ParseMode>(
@@ -69,3 +65,42 @@ impl<Input: Stream, C: Class<Input::Token>> Parser<Input> for ClassParser<Input,
 
     ghost single = { λ p l d. takes_one_means_one Input.Error.observers (satisfied (of_function C.members)) _ _ _ (satisfied_is_test _ (of_function_is_predicate C.members)) };
 }
+
+/// The parser of [`digit`](crate::class::digit).
+pub type Digit<Input> = ClassParser<Input, classes::Digit>;
+
+/// The parser of [`oct_digit`](crate::class::oct_digit).
+pub type OctDigit<Input> = ClassParser<Input, classes::OctDigit>;
+
+/// The parser of [`hex_digit`](crate::class::hex_digit).
+pub type HexDigit<Input> = ClassParser<Input, classes::HexDigit>;
+
+/// The parser of [`space`](crate::class::space).
+pub type Space<Input> = ClassParser<Input, classes::Space>;
+
+/// The parser of [`newline`](crate::class::newline).
+pub type Newline<Input> = ClassParser<Input, classes::Newline>;
+
+/// The parser of [`tab`](crate::class::tab).
+pub type Tab<Input> = ClassParser<Input, classes::Tab>;
+
+/// The parser of [`upper`](crate::class::upper).
+pub type Upper<Input> = ClassParser<Input, classes::Upper>;
+
+/// The parser of [`lower`](crate::class::lower).
+pub type Lower<Input> = ClassParser<Input, classes::Lower>;
+
+/// The parser of [`letter`](crate::class::letter).
+pub type Letter<Input> = ClassParser<Input, classes::Letter>;
+
+/// The parser of [`alpha_num`](crate::class::alpha_num).
+pub type AlphaNum<Input> = ClassParser<Input, classes::AlphaNum>;
+
+/// The parser of [`crlf`](crate::class::crlf).
+pub type CrLf<Input> = Named<
+    WholePair<(ClassParser<Input, classes::CarriageReturn>, Newline<Input>)>,
+    texts::CrLf,
+>;
+
+/// The parser of [`spaces`](crate::class::spaces).
+pub type Spaces<Input> = Named<SkipMany<Space<Input>>, texts::Spaces>;

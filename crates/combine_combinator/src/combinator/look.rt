@@ -51,8 +51,6 @@ impl<Input: Stream, P: Parser<Input>> Parser<Input> for LookAhead<P> {
 
     ghost determined = { λ p. P.determined (look_part p) };
 
-    ghost valid = { λ _. Unit {0} };
-
     ghost meaning = { λ p. by_table looks (P.meaning (look_part p)) (P.meaning (look_part p)).adds (P.meaning (look_part p)).refuses };
 
     ghost parts = { λ p. P.parts (look_part p) };
@@ -112,8 +110,6 @@ impl<Input: Stream, P: Parser<Input>> Parser<Input> for NotFollowedBy<P> {
     ghost lawful = { λ p. P.lawful (denied_part p) };
 
     ghost determined = { λ p. P.determined (denied_part p) };
-
-    ghost valid = { λ _. Unit {0} };
 
     ghost meaning = { λ p. by_table is_not (P.meaning (denied_part p)) AddsNothing (RefusesFollowed Input.Error.observers) };
 
@@ -189,8 +185,6 @@ impl<Input: Stream, P: Parser<Input>> Parser<Input> for NoPartial<P> {
     ghost lawful = { λ p. P.lawful (whole_part p) };
 
     ghost determined = { λ p. P.determined (whole_part p) };
-
-    ghost valid = { λ _. Unit {0} };
 
     ghost meaning = { λ p. by_table same_outcome (P.meaning (whole_part p)) (P.meaning (whole_part p)).adds (P.meaning (whole_part p)).refuses };
 

@@ -1,13 +1,12 @@
 //! The parsers that the functions of `combinator` return.
-ghost use Rattle.std.specs.Prelude.{◌≡◌};
-ghost use Rattle.combine_combinator.specs.Attempt.{HasValidTry, attempted, attempted_is_meaning, attempted_means_one, refusing, KeepsTokenDistance, PutsBack};
+ghost use Rattle.std.specs.Prelude.{◌≡◌, if◌then◌else◌};
+ghost use Rattle.combine_combinator.specs.Attempt.{HasValidTry, IsFreshTry, attempted, attempted_is_meaning, attempted_means_one, refusing, KeepsTokenDistance, PutsBack};
 ghost use Rattle.combine_combinator.specs.CombinatorParsers.{attempt_part, map_function, map_of, map_part};
 ghost use Rattle.combine_base.specs.Parser.GivenValues.{GivesOnly};
 ghost use Rattle.combine_base.specs.Parser.ValueMap.{mapped, mapped_is_meaning, mapped_means_one};
 ghost use Rattle.combine_base.specs.Stream.Calls.{Passes};
 ghost use Rattle.combine_base.specs.Distances.{losing};
 
-use super::TryState;
 pub use super::look::{LookAhead, NoPartial, NotFollowedBy};
 pub use super::values::{Ignore, Nothing, Pick, Picked};
 use combine_base::distance::measure;
@@ -89,6 +88,38 @@ impl<Input: Stream, P: Parser<Input>, B: Drop, F: Function<P::Output, Output = B
     #[inline]
     fn parser_count(&self) -> ErrorOffset {
         self.part.parser_count()
+    }
+}
+
+/// What `attempt` keeps while more input is needed: the distance that was read, in tokens, and the state of its part.
+#[derive(Drop)]
+pub struct TryState<S> {
+    distance: u64,
+    part: S,
+}
+
+impl<S: Default> Default for TryState<S> {
+    ghost is_default = { IsFreshTry S.is_default };
+
+    #[inline]
+    fn default() -> Self {
+        TryState {
+            distance: 0,
+            part: S::default(),
+        }
+    }
+}
+
+impl<S> TryState<S> {
+    /// Hands out the distance that a call begins with: none where it begins afresh.
+    #[inline]
+    fn begin(&mut self, first: bool) -> u64
+        ensures begun { result ≡ (if first then 0 else self.old.distance) }
+        ensures left { self.new ≡ record { distance = 0; part = self.old.part } }
+    {
+        let distance = if first { 0 } else { self.distance };
+        self.distance = 0;
+        distance
     }
 }
 

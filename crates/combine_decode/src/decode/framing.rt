@@ -3,10 +3,10 @@ ghost use Rattle.std.specs.Prelude.{◌≡◌};
 ghost use Rattle.combine_decode.specs.Frames.{framing_of};
 ghost use Rattle.combine_sequence.specs.Then.{forget};
 ghost use Rattle.combine_token.specs.Token.TokenParsers.{any_parser};
-ghost use Rattle.combine_repeat_turns.specs.Repeat.RepeatParsers.{count_min_max_of};
+ghost use Rattle.combine_repeat.specs.Repeat.RepeatParsers.{count_min_max_of};
 
-use combine_repeat_turns::repeat::count_min_max;
-use combine_repeat_turns::repeat::types::CountMinMax;
+use combine_repeat::counts::count_min_max;
+use combine_repeat::counts::types::CountMinMax;
 use combine_sequence::sequence::types::NextParser;
 use combine_token::token::any;
 use combine_token::token::types::Any;

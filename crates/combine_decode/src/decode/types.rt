@@ -1,7 +1,7 @@
 //! The parser that the function of `decode` returns.
 
 pub use super::framing::Framing;
-use combine_byte_num::num::types::BeU16;
+use combine_byte::num::types::BeU16;
 use combine_sequence::sequence::types::Answered;
 
 /// The parser of [`frame`](crate::decode::frame).

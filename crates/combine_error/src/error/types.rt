@@ -72,8 +72,10 @@ fn is_refusal<Input: Stream>(input: &Input, error: &Input::Error) -> bool
     }
 }
 
-// Makes a committed refusal say this too.
-fn tell<O: Drop, Input: Stream>(
+/// Adds a message to a committed refusal. Our own.
+///
+/// Any other answer is returned as it is: need of more and faults with their errors, and a peeked refusal, which `add_error` explains.
+pub fn add_message_to_refusal<O: Drop, Input: Stream>(
     input: &Input,
     info: &Info<Input::Token, Input::Range>,
     answer: ParseResult<O, Input::Error>,
@@ -95,8 +97,10 @@ fn tell<O: Drop, Input: Stream>(
     }
 }
 
-// Makes a refusal no longer say what was expected.
-fn hush<O: Drop, Input: Stream>(
+/// Clears what was expected from a refusal, committed or peeked. Our own.
+///
+/// Any other answer is returned as it is, need of more and faults with their errors.
+pub fn clear_expected_of_refusal<O: Drop, Input: Stream>(
     input: &Input,
     answer: ParseResult<O, Input::Error>,
 ) -> ParseResult<O, Input::Error>
@@ -153,7 +157,7 @@ impl<Input: Stream, P: Parser<Input>> Parser<Input>
         state: &mut Self::PartialState,
     ) -> ParseResult<P::Output, Input::Error> {
         let answer = self.parser.parse_mode(mode, input, state);
-        tell(input, &self.info, answer)
+        add_message_to_refusal(input, &self.info, answer)
     }
 
     /// Adds what the parser adds, and then the message.
@@ -199,7 +203,7 @@ impl<Input: Stream, P: Parser<Input>> Parser<Input> for Silent<P> {
         state: &mut Self::PartialState,
     ) -> ParseResult<P::Output, Input::Error> {
         let answer = self.0.parse_mode(mode, input, state);
-        hush(input, answer)
+        clear_expected_of_refusal(input, answer)
     }
 
     /// Adds nothing.

@@ -2,7 +2,7 @@
 ghost use Rattle.std.specs.Prelude.{◌≡◌};
 
 use combine_base::function::{Maker, RefFunction};
-use combine_choice_dispatch::variants::Either;
+use combine_choice::variants::Either;
 
 /// The same parser at each step.
 #[derive(Clone, Copy, Drop)]

@@ -49,8 +49,6 @@ impl<
 
     ghost meaning = { λ p. nesting Input.step Input.Error.observers (depth_part p) (R.returns (root_part p)) (S.returns (step_asker p)) F.takes F.joins (asked_by_some S.callable S.returns N.lawful) N.meaning };
 
-    ghost parts = { λ _. 1 };
-
     ghost default_valid = { steps_start_valid (KeptOf N.lawful N.meaning (asked_by_some S.callable S.returns N.lawful)) N.valid };
 
     ghost laws = { λ p l. nesting_is_meaning Input.step (depth_part p) (R.returns (root_part p)) (S.returns (step_asker p)) F.takes F.joins (asked_by_some S.callable S.returns N.lawful) N.meaning N.lawful N.laws l.2 Input.Error.observers };

@@ -89,11 +89,7 @@ where
 
     ghost determined = { λ p. IsPredicate (F.returns p.predicate) };
 
-    ghost valid = { λ s. Unit {0} };
-
     ghost meaning = { λ p. takes_beginning Input.Error.observers Input.size Input.spells (F.returns p.predicate) false };
-
-    ghost parts = { λ p. 1 };
 
     #[inline(always)]
     fn parse_mode<M: ParseMode>(
@@ -135,11 +131,7 @@ where
 
     ghost determined = { λ p. IsPredicate (F.returns p.predicate) };
 
-    ghost valid = { λ s. Unit {0} };
-
     ghost meaning = { λ p. takes_beginning Input.Error.observers Input.size Input.spells (F.returns p.predicate) true };
-
-    ghost parts = { λ p. 1 };
 
     #[inline(always)]
     fn parse_mode<M: ParseMode>(

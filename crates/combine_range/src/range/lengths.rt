@@ -40,15 +40,7 @@ where
 {
     type PartialState = ();
 
-    ghost lawful = { λ p. Unit {0} };
-
-    ghost determined = { λ p. Unit {0} };
-
-    ghost valid = { λ s. Unit {0} };
-
     ghost meaning = { λ p. stateless (taking Input.size Input.spells p.count) ⊥ (Unit {0}) AddsNothing (RefusesLength Input.Error.observers Input.size Input.spells p.count) };
-
-    ghost parts = { λ p. 1 };
 
     #[inline(always)]
     fn parse_mode<M: ParseMode>(
@@ -96,17 +88,11 @@ where
 {
     type PartialState = ();
 
-    ghost lawful = { λ p. Unit {0} };
-
     /// Ranges of the same tokens are the same to `==`.
     ghost determined = { λ p. Fair Input.spells (λ r. Input.Range.eq r p.wanted) };
 
-    ghost valid = { λ s. Unit {0} };
-
     ghost meaning = { λ p. stateless (matching_range Input.size Input.spells (equal_range Input.Range.count Input.Range.eq p.wanted)) ⊥ (Unit {0}) (Only (Expected (OfRange p.wanted)))
         (RefusesDiffering Input.Error.observers Input.size Input.spells (equal_range Input.Range.count Input.Range.eq p.wanted)) };
-
-    ghost parts = { λ p. 1 };
 
     #[inline(always)]
     fn parse_mode<M: ParseMode>(

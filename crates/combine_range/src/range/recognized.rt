@@ -78,8 +78,6 @@ where
 
     ghost meaning = { λ p. recognized Input.Error.observers Input.size Input.spells Input.step (P.meaning p.0) };
 
-    ghost parts = { λ p. 1 };
-
     ghost default_valid = { λ s d. P.default_valid _ d.1 };
 
     ghost laws = { λ p l. recognized_is_meaning Input.Error.observers Input.size Input.spells Input.step Input.filled P.PartialState.is_default P.valid (P.meaning p.0) (P.laws p.0 l) };
@@ -152,8 +150,6 @@ where
     ghost valid = { HasValidRecognizing P.valid };
 
     ghost meaning = { λ p. mapped (recognized Input.Error.observers Input.size Input.spells Input.step (P.meaning p.0.0)) (λ both range. range ≡ both.0) };
-
-    ghost parts = { λ p. 1 };
 
     ghost default_valid = { λ s d. P.default_valid _ d.1 };
 

@@ -35,17 +35,11 @@ where
 {
     type PartialState = Distance;
 
-    ghost lawful = { λ p. Unit {0} };
-
     /// Ranges of the same tokens are the same to `==`.
     ghost determined = { λ p. Fair Input.spells (λ r. Input.Range.eq r p.wanted) };
 
-    ghost valid = { λ s. Unit {0} };
-
     ghost meaning = { λ p. kept Input.size (until_range Input.size Input.spells (equal_range Input.Range.count Input.Range.eq p.wanted)) AddsNothing
         (RefusesKept Input.Error.observers Input.size (RefusesMissing Input.Error.observers Input.size Input.spells (equal_range Input.Range.count Input.Range.eq p.wanted))) };
-
-    ghost parts = { λ p. 1 };
 
     #[inline(always)]
     fn parse_mode<M: ParseMode>(

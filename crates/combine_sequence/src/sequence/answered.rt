@@ -71,8 +71,6 @@ impl<
 
     ghost meaning = { λ p. then_meaning Input.step Input.Error.observers K.keeps V.joined (K.answers (then_asker p)) (AnsweredBySome K.callable K.answers N.lawful P.lawful P.valid P.meaning) (P.meaning (first_part p)) N.meaning };
 
-    ghost parts = { λ _. 1 };
-
     ghost default_valid = { answered_starts_valid (KeptOf N.lawful N.meaning (AnsweredBySome K.callable K.answers N.lawful P.lawful P.valid P.meaning)) N.valid P.default_valid };
 
     ghost laws = { λ p l. then_is_meaning Input.step Input.Error.observers K.keeps V.joined (K.answers (then_asker p)) (AnsweredBySome K.callable K.answers N.lawful P.lawful P.valid P.meaning) N.lawful (P.laws (first_part p) l.0) N.laws (gives_as (λ a h. h.1) l.1) };

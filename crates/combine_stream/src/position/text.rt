@@ -107,6 +107,7 @@ impl<'a> DefaultPositioned for &'a str {
 
     #[inline]
     fn place(self) -> TextStream<'a> {
+        // (so that the length of the text is known to fit)
         let _size = self.len();
         TextStream {
             rest: self,
@@ -151,12 +152,12 @@ impl<'a> Windowed for &'a str {
 
     #[inline]
     fn place_before(self, to: usize, window: &TextStream<'a>) -> usize {
-        place_within(self, to, window.rest)
+        end_within(self, to, window.rest)
     }
 
     #[inline]
     fn count_to(self, to: usize, from: usize, before: usize) -> usize {
-        count_on(self, to, from, before)
+        count_chars_to(self, to, from, before)
     }
 }
 
@@ -187,7 +188,7 @@ impl<'a> StreamOnce for TextStream<'a> {
 
     #[inline(always)]
     fn uncons(&mut self) -> Result<char, Kind> {
-        match step_on(self.rest, self.place) {
+        match split_first_char(self.rest, self.place) {
             Some((first, left)) => {
                 *self = left;
                 Ok(first)
@@ -229,7 +230,7 @@ impl<'a> ResetStream for TextStream<'a> {
 
     #[inline(always)]
     fn has_moved(&self, since: TextStream<'a>) -> bool {
-        is_apart(since.rest, self.rest)
+        has_advanced(since.rest, self.rest)
     }
 
     #[inline]
@@ -285,7 +286,7 @@ impl<'a> RangeStream for TextStream<'a> {
 
     #[inline(always)]
     fn distance(&self, since: &TextStream<'a>) -> usize {
-        bytes_between(since.rest, self.rest)
+        byte_distance(since.rest, self.rest)
     }
 
     #[inline(always)]
@@ -298,7 +299,7 @@ impl<'a> RangeStream for TextStream<'a> {
 
 // Returns the first character, and what is left after it.
 #[inline(always)]
-fn step_on<'a>(rest: &'a str, place: SourcePosition) -> Option<(char, TextStream<'a>)>
+fn split_first_char<'a>(rest: &'a str, place: SourcePosition) -> Option<(char, TextStream<'a>)>
     requires { CountsFit place (length rest.now) }
     ensures { MatchOption result (chars rest.now ≡ []) (λ p. StepsOn rest.now place p.0 p.1.rest.now p.1.place) }
 {
@@ -344,16 +345,6 @@ fn place_after(place: SourcePosition, text: &str) -> SourcePosition
     }
 }
 
-// Makes a place in a text.
-#[inline(always)]
-fn put<'a>(rest: &'a str, place: SourcePosition) -> TextStream<'a>
-    requires { CountsFit place (length rest.now) }
-    ensures rest { result.rest.now ≡ rest.now }
-    ensures place { result.place ≡ place }
-{
-    TextStream { rest, place }
-}
-
 // Returns the first n bytes, and what is left after them.
 #[inline(always)]
 fn take_range<'a>(
@@ -365,21 +356,21 @@ fn take_range<'a>(
     ensures { MatchResult result (λ p. (k : ℕ) × Cut rest.now n k p.0.now p.1.rest.now × (p.1.place ≡ after_all next_place place (take k (chars rest.now)))) (λ why. uncut rest.now n why) }
 {
     match cut(rest, n) {
-        Ok((front, back)) => Ok((front, put(back, place_after(place, front)))),
+        Ok((front, back)) => Ok((front, here(back, place_after(place, front)))),
         Err(kind) => Err(kind),
     }
 }
 
 // Returns whether what is left of a text is another part of it.
 #[inline(always)]
-fn is_apart(from: &str, to: &str) -> bool
+fn has_advanced(from: &str, to: &str) -> bool
     ensures { (k : ℕ) → k ≤ length (chars from.now) → chars to.now ≡ drop k (chars from.now) → result ≡ nat_lt 0 k }
 {
     to.len() != from.len()
 }
 
 #[inline(always)]
-fn bytes_between(from: &str, to: &str) -> usize
+fn byte_distance(from: &str, to: &str) -> usize
     ensures { (k : ℕ) → chars to.now ≡ drop k (chars from.now) → result ≡ size_of len_utf8 (take k (chars from.now)) }
 {
     from.len().saturating_sub(to.len())
@@ -421,6 +412,7 @@ fn part_of<'a>(text: &'a str, from: usize, to: usize, place: SourcePosition) -> 
     ensures rest { chars result.rest.now ≡ drop (index_of text.now from) (take (index_of text.now to) (chars text.now)) }
     ensures place { result.place ≡ place }
 {
+    // (so that the length of the text is known to fit)
     let _size = text.len();
     let (front, _after) = text.split_at(to);
     let (_before, rest) = front.split_at(from);
@@ -429,7 +421,7 @@ fn part_of<'a>(text: &'a str, from: usize, to: usize, place: SourcePosition) -> 
 
 // Returns the place of what is unread of a part that ends at a place.
 #[inline]
-fn place_within(text: &str, to: usize, rest: &str) -> usize
+fn end_within(text: &str, to: usize, rest: &str) -> usize
     requires { IsCharBoundary text.now to }
     ensures { (k : ℕ) → k ≤ index_of text.now to → chars rest.now ≡ drop k (take (index_of text.now to) (chars text.now)) → (IsUtf8 text.now × IsCharBoundary text.now result) × (result ≤ to) × (index_of text.now result ≡ k) }
 {
@@ -438,7 +430,7 @@ fn place_within(text: &str, to: usize, rest: &str) -> usize
 
 // Returns how many characters of a text stand before a place, from how many stand before an earlier one.
 #[inline]
-fn count_on(text: &str, to: usize, from: usize, before: usize) -> usize
+fn count_chars_to(text: &str, to: usize, from: usize, before: usize) -> usize
     requires from { IsCharBoundary text.now from }
     requires to { IsCharBoundary text.now to }
     requires order { from ≤ to }

@@ -59,7 +59,7 @@ impl<'a> RangeStream for &'a str {
 
     #[inline(always)]
     fn distance(&self, since: &&'a str) -> usize {
-        bytes_between(since, self)
+        byte_distance(since, self)
     }
 
     #[inline(always)]
@@ -85,7 +85,7 @@ pub(crate) fn cut(text: &str, n: usize) -> Result<(&str, &str), Kind>
 }
 
 #[inline(always)]
-fn bytes_between(from: &str, to: &str) -> usize
+fn byte_distance(from: &str, to: &str) -> usize
     ensures { (k : ℕ) → Ahead less_char k (text_view from.now) (text_view to.now) → result ≡ size_of len_utf8 (take k (chars from.now)) }
 {
     from.len().saturating_sub(to.len())

@@ -5,10 +5,10 @@ use Rattle.std.proofs.lemmas.List.{map-append}
 use Rattle.std.proofs.lemmas.List.Elements.{All-nil, All-push}
 use Rattle.combine_base.specs.Error.Items.{ErrorItem, Expected, OfToken}
 use Rattle.combine_base.specs.Error.Errors.{Observers, Only, AddsItems}
-use Rattle.combine_token.specs.Choice.Alternatives.{Together}
+use Rattle.combine_token.specs.Token.Together.{Together}
 use Rattle.combine_token.specs.Token.Among.{EndsAlways, YieldsOnly, FindsAmong, ExpectsEach, expected_tokens}
 use Rattle.combine_token.specs.Token.Lists.IteratedLists.{IsIterated}
-use Rattle.combine_token.proofs.Choices.TwoAdditions.{says_as, says_together}
+use Rattle.combine_token.proofs.Tokens.TwoAdditions.{says_as, says_together}
 use Rattle.combine_token.proofs.Lists.IteratorCalls.{yields_more}
 
 module _ {I A : Type 0} (steps : I → Option A → I → Type 0) where

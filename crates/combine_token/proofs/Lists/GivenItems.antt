@@ -7,8 +7,8 @@ use Rattle.combine_base.specs.Parser.Outcome.{Outcome}
 use Rattle.combine_base.specs.Parser.Meaning.{Alike, MeansSame, SameReasons}
 use Rattle.combine_base.specs.Parser.Answer.{Answers, CallRecord, World}
 use Rattle.combine_base.proofs.Parsers.SameMeanings.{answers_alike}
-use Rattle.combine_base.specs.declared.error.Info.{Info}
-use Rattle.combine_base.specs.declared.error.ParseResult.{ParseResult}
+use Rattle.combine_base.specs.declared.error.info.Info.{Info}
+use Rattle.combine_base.specs.declared.error.result.ParseResult.{ParseResult}
 use Rattle.combine_token.specs.Token.Lists.TokenLists.{TokenList, matching}
 use Rattle.combine_token.specs.Token.Lists.ListMeaning.{token_list}
 use Rattle.combine_token.specs.Token.Lists.IteratedLists.{GaveAt, GaveAll, IsItemAt, EndsAfter, iterated_tokens}

@@ -10,13 +10,13 @@ use Rattle.combine_base.specs.Sequence.Parts.{accepted_as, refused_as}
 use Rattle.combine_base.specs.Stream.Calls.{TakesToken, FindsEnd, no_token}
 use Rattle.combine_base.specs.Parser.Answer.{CallRecord, World, Answers, Accepts, Refuses, Asks, Leaves, fails, asks_or_refuses, peeks, answers}
 use Rattle.combine_base.proofs.Parsers.Progress.{progress_outcome, takes_none, takes_more, takes_open, moves_none}
-use Rattle.combine_base.specs.declared.error.Info.{Info}
+use Rattle.combine_base.specs.declared.error.info.Info.{Info}
 use Rattle.combine_base.specs.declared.stream.Kind.{Kind}
 use Rattle.combine_base.specs.declared.stream.Kind.TheVariants as kinds
 use Rattle.combine_base.specs.declared.stream.Failures.{Failures}
-use Rattle.combine_base.specs.declared.error.Tracked.{Tracked}
-use Rattle.combine_base.specs.declared.error.ParseResult.{ParseResult}
-use Rattle.combine_base.specs.declared.error.ParseResult.TheVariants.{CommitOk, PeekOk, CommitErr, PeekErr}
+use Rattle.combine_base.specs.declared.error.tracked.Tracked.{Tracked}
+use Rattle.combine_base.specs.declared.error.result.ParseResult.{ParseResult}
+use Rattle.combine_base.specs.declared.error.result.ParseResult.TheVariants.{CommitOk, PeekOk, CommitErr, PeekErr}
 use Rattle.combine_token.specs.Token.Lists.TokenLists.{TokenList, mismatch_at, matching_at, matching}
 use Rattle.combine_token.specs.Token.Lists.ListMeaning.{token_list}
 use Rattle.combine_token.specs.Token.Lists.ListAnswers.{expecting, FindsNone, finds_none, Mismatch, PutsBackList, puts_back_list}

@@ -5,7 +5,7 @@ use Rattle.std.specs.Iterator.{Yields, AlwaysYields, Count, IsFinite, size}
 use Rattle.combine_base.specs.Stream.View.{View}
 use Rattle.combine_base.specs.Error.Errors.{Observers}
 use Rattle.combine_base.specs.Parser.Outcome.{Outcome, Accepted, Refused, Undecided}
-use Rattle.combine_base.specs.declared.error.Info.{Info}
+use Rattle.combine_base.specs.declared.error.info.Info.{Info}
 use Rattle.combine_token.specs.Token.Lists.TokenLists.{TokenList, ComparesOnce, Matched, all_fit, mismatch_at, matching_at}
 use Rattle.combine_token.specs.Token.Lists.IteratedLists.{IsItemAt, EndsAfter, IsIterated, iterated_tokens}
 use Rattle.combine_token.specs.Token.Lists.KnownLists.{ListGives, IsListWithin, listed_tokens}

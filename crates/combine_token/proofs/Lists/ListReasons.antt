@@ -8,12 +8,12 @@ use Rattle.combine_base.specs.Parser.Answer.{World}
 use Rattle.combine_base.specs.Parser.Meaning.{begun_refuses}
 use Rattle.combine_base.specs.Parser.Reasons.{Reasoned, ReasonedCall}
 use Rattle.combine_base.proofs.Parsers.Progress.{takes_open}
-use Rattle.combine_base.specs.declared.error.Info.{Info}
+use Rattle.combine_base.specs.declared.error.info.Info.{Info}
 use Rattle.combine_base.specs.declared.stream.Kind.{Kind}
 use Rattle.combine_base.specs.declared.stream.Kind.TheVariants as kinds
 use Rattle.combine_base.specs.declared.stream.Failures.{Failures}
-use Rattle.combine_base.specs.declared.error.ParseResult.{ParseResult}
-use Rattle.combine_base.specs.declared.error.ParseResult.TheVariants.{CommitOk, PeekOk, CommitErr, PeekErr}
+use Rattle.combine_base.specs.declared.error.result.ParseResult.{ParseResult}
+use Rattle.combine_base.specs.declared.error.result.ParseResult.TheVariants.{CommitOk, PeekOk, CommitErr, PeekErr}
 use Rattle.combine_token.specs.Token.Lists.ListAnswers.{AcceptsList, FindsNone, Mismatch, PutsBackList}
 use Rattle.combine_token.specs.Token.TokenReasons.{RefusesList, SaysEnded, begins_at_item, peeked_only, refuses_next}
 use Rattle.combine_token.specs.Token.Lists.TokenLists.{TokenList, mismatch_at}

@@ -10,7 +10,7 @@ use Rattle.combine_base.proofs.Parsers.Progress.{Progress, takes_more, takes_ope
 use Rattle.combine_base.proofs.Parsers.CallStarts.{progress_here}
 use Rattle.combine_base.specs.declared.stream.Failures.{Failures}
 use Rattle.combine_base.specs.Error.Errors.{Observers}
-use Rattle.combine_base.specs.declared.error.Info.{Info}
+use Rattle.combine_base.specs.declared.error.info.Info.{Info}
 use Rattle.combine_token.specs.Token.TokenReasons.{begins_at_item}
 use Rattle.combine_token.specs.Token.Lists.TokenLists.{TokenList, ListEndsOnce, Matched, all_fit, mismatch_at, matching_at, matching}
 use Rattle.combine_token.specs.Token.Lists.ListMeaning.{token_list}

@@ -10,8 +10,8 @@ use Rattle.combine_base.proofs.Parsers.Progress.{takes_more, takes_none}
 use Rattle.combine_base.specs.declared.stream.Kind.{Kind}
 use Rattle.combine_base.specs.declared.stream.Kind.TheVariants as kinds
 use Rattle.combine_base.specs.declared.stream.Failures.{Failures}
-use Rattle.combine_base.specs.declared.error.ParseResult.{ParseResult}
-use Rattle.combine_base.specs.declared.error.ParseResult.TheVariants.{PeekOk, CommitErr}
+use Rattle.combine_base.specs.declared.error.result.ParseResult.{ParseResult}
+use Rattle.combine_base.specs.declared.error.result.ParseResult.TheVariants.{PeekOk, CommitErr}
 use Rattle.combine_token.specs.Token.OneToken.{holds, of_token, one_token, one_token_at, satisfied, takes_one, ReadsToken, ReadsTokenIf}
 use Rattle.combine_token.specs.Token.TokenReasons.{RefusesToken}
 use Rattle.combine_token.specs.Token.Stateless.{never_refused, stateless}

@@ -7,7 +7,7 @@ use Rattle.combine_base.specs.Parser.Answer.{CallRecord, World, Answers}
 use Rattle.combine_base.proofs.Parsers.Progress.{takes_none}
 use Rattle.combine_base.specs.declared.stream.Kind.TheVariants as kinds
 use Rattle.combine_base.specs.declared.stream.Failures.{Failures}
-use Rattle.combine_base.specs.declared.error.ParseResult.TheVariants.{PeekOk, CommitErr}
+use Rattle.combine_base.specs.declared.error.result.ParseResult.TheVariants.{PeekOk, CommitErr}
 use Rattle.combine_token.specs.Token.PureValues.{given_value, given_meaning}
 use Rattle.combine_token.specs.Token.Stateless.{never_refused}
 use Rattle.combine_token.proofs.Tokens.Stateless.{into_begun}

@@ -10,8 +10,8 @@ use Rattle.combine_base.specs.Parser.Answer.{Resumes, CallRecord, World, Answers
 use Rattle.combine_base.proofs.Parsers.Progress.{takes_none, resumes_none}
 use Rattle.combine_base.specs.declared.stream.Kind.{Kind}
 use Rattle.combine_base.specs.declared.stream.Kind.TheVariants as kinds
-use Rattle.combine_base.specs.declared.error.ParseResult.{ParseResult}
-use Rattle.combine_base.specs.declared.error.ParseResult.TheVariants.{CommitOk, PeekOk, CommitErr, PeekErr}
+use Rattle.combine_base.specs.declared.error.result.ParseResult.{ParseResult}
+use Rattle.combine_base.specs.declared.error.result.ParseResult.TheVariants.{CommitOk, PeekOk, CommitErr, PeekErr}
 use Rattle.combine_token.specs.Token.Stateless.{stateless}
 
 module _ {P T R A S E : Type 0} (read : Reading P T A) (keeps heapless : Type 0) (adds : List (ErrorItem T R) → Type 0) (refuses : Refusing P T E) where

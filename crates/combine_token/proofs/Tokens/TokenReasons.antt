@@ -9,9 +9,9 @@ use Rattle.combine_base.specs.Refusals.{NoToken, SaysEnd}
 use Rattle.combine_base.specs.declared.stream.Kind.{Kind}
 use Rattle.combine_base.specs.declared.stream.Kind.TheVariants as kinds
 use Rattle.combine_base.specs.declared.stream.Failures.{Failures}
-use Rattle.combine_base.specs.declared.error.Tracked.{Tracked}
-use Rattle.combine_base.specs.declared.error.ParseResult.{ParseResult}
-use Rattle.combine_base.specs.declared.error.ParseResult.TheVariants.{CommitOk, PeekOk, CommitErr, PeekErr}
+use Rattle.combine_base.specs.declared.error.tracked.Tracked.{Tracked}
+use Rattle.combine_base.specs.declared.error.result.ParseResult.{ParseResult}
+use Rattle.combine_base.specs.declared.error.result.ParseResult.TheVariants.{CommitOk, PeekOk, CommitErr, PeekErr}
 use Rattle.combine_token.specs.Token.OneToken.{one_token, takes_one}
 use Rattle.combine_token.specs.Token.TokenReasons.{RefusesToken}
 use Rattle.combine_token.proofs.Tokens.Stateless.{stateless_reasons}

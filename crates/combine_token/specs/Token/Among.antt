@@ -1,7 +1,8 @@
 -- tokens that equal an item of a list, and tokens that equal none
-use Rattle.std.specs.Prelude.{◌≡◌, List, map, Bool, true, false, not, Option, Some, None}
+use Rattle.std.specs.Prelude.{◌≡◌, List, map, Bool, true, false, if◌then◌else◌, not, Option, Some, None}
 use Rattle.std.specs.List.{All}
 use Rattle.std.specs.Iterator.{Yields, Count, IsFinite}
+use Rattle.combine_base.specs.Error.Errors.{AddsNothing}
 use Rattle.combine_base.specs.Error.Items.{ErrorItem, Expected, OfToken}
 use Rattle.combine_base.specs.Predicates.{IsPredicate}
 
@@ -64,13 +65,19 @@ module _ {L I A : Type 0} (clones : L → L → Type 0) (makes : L → I → Typ
   abbrev pub among : {T : Type 0} → (A → T → Bool) → T → Bool → Type 0
   among equals t found = (start : I) × StartsClone start × FindsAmong steps (λ x. equals x t) start found
 
-  -- whether none does
-  abbrev pub none_among : {T : Type 0} → (A → T → Bool) → T → Bool → Type 0
-  none_among equals t none = among equals t (not none)
+  -- whether an item equals the token where that is wanted, or else whether none does
+  abbrev pub listed : {T : Type 0} → Bool → (A → T → Bool) → T → Bool → Type 0
+  listed wanted equals t b = among equals t (if wanted then b else not b)
 
   -- each item of the list was expected
   abbrev pub expects_each : {R : Type 0} → List (ErrorItem A R) → Type 0
   expects_each is = (start : I) × StartsClone start × ExpectsEach steps start is
 
-pub not_is_predicate : {T : Type 0} (p : T → Bool → Type 0) → IsPredicate p → IsPredicate (λ t b. p t (not b))
-not_is_predicate p h = record { one = λ t a b. h.one t b a }
+  -- the same, where one of them is wanted
+  abbrev pub expects_listed : {R : Type 0} → Bool → List (ErrorItem A R) → Type 0
+  expects_listed true = expects_each
+  expects_listed false = AddsNothing
+
+  pub listed_is_predicate : {T : Type 0} (wanted : Bool) (equals : A → T → Bool) → IsPredicate (among equals) → IsPredicate (listed wanted equals)
+  listed_is_predicate true equals h = h
+  listed_is_predicate false equals h = record { one = λ t a b. h.one t b a }

@@ -9,8 +9,8 @@ use Rattle.combine_base.specs.Parser.Meaning.{Meaning, Reading, IsReading, IsSin
 use Rattle.combine_base.specs.Parser.Answer.{World, Answers}
 use Rattle.combine_base.specs.Predicates.{IsPredicate}
 use Rattle.combine_base.specs.declared.stream.Failures.{Failures}
-use Rattle.combine_base.specs.declared.error.ParseResult.{ParseResult}
-use Rattle.combine_base.specs.declared.error.ParseResult.TheVariants.{CommitOk, PeekOk, CommitErr, PeekErr}
+use Rattle.combine_base.specs.declared.error.result.ParseResult.{ParseResult}
+use Rattle.combine_base.specs.declared.error.result.ParseResult.TheVariants.{CommitOk, PeekOk, CommitErr, PeekErr}
 use Rattle.combine_token.specs.Token.TokenReasons.{RefusesToken}
 use Rattle.combine_token.specs.Token.Stateless.{never_refused, stateless, stateless_is_meaning, stateless_means_one}
 

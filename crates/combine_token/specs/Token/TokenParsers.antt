@@ -1,7 +1,8 @@
 -- the parsers of tokens, by their parts
 use Rattle.std.specs.Prelude.{ℕ}
-use Rattle.combine_token.specs.declared.token.among.types.NoneOf.{NoneOf}
-use Rattle.combine_token.specs.declared.token.among.types.OneOf.{OneOf}
+use Rattle.combine_token.specs.declared.token.among.types.Absent.{Absent}
+use Rattle.combine_token.specs.declared.token.among.types.Listed.{Listed}
+use Rattle.combine_token.specs.declared.token.among.types.Present.{Present}
 use Rattle.combine_token.specs.declared.token.lists.types.Tokens.{Tokens}
 use Rattle.combine_token.specs.declared.token.lists.types.TokensCmp.{TokensCmp}
 use Rattle.combine_token.specs.declared.token.lists.types.TokensState.{TokensState}
@@ -39,11 +40,11 @@ abbrev pub eof_parser : {Input : Type 0} → Eof Input
 eof_parser = record { reads = record {} }
 
 -- the parsers of a token among those of a list, and of another
-abbrev pub one_of_parser : {T Input : Type 0} → T → OneOf T Input
-one_of_parser list = record { tokens = list; reads = record {} }
+abbrev pub one_of_parser : {T Input : Type 0} → T → Listed T Input Present
+one_of_parser list = record { tokens = list; reads = record {}; wants = record {} }
 
-abbrev pub none_of_parser : {T Input : Type 0} → T → NoneOf T Input
-none_of_parser list = record { tokens = list; reads = record {} }
+abbrev pub none_of_parser : {T Input : Type 0} → T → Listed T Input Absent
+none_of_parser list = record { tokens = list; reads = record {}; wants = record {} }
 
 -- the parser of a list of tokens, with how they compare and what its errors say was expected
 abbrev pub tokens_of : {C E T Input : Type 0} → C → E → T → Tokens C E T Input

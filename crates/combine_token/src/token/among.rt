@@ -9,7 +9,7 @@ pub mod types;
 
 use combine_base::error::{Info, ParseError};
 use std::marker::PhantomData;
-use types::{NoneOf, OneOf};
+use types::{Listed, NoneOf, OneOf};
 
 /// Takes a token that equals an item of the list, which is the value.
 ///
@@ -39,9 +39,10 @@ use types::{NoneOf, OneOf};
 pub fn one_of<T, Input>(tokens: T) -> OneOf<T, Input>
     ensures { result ≡ one_of_parser tokens }
 {
-    OneOf {
+    Listed {
         tokens,
         reads: PhantomData,
+        wants: PhantomData,
     }
 }
 
@@ -61,9 +62,10 @@ pub fn one_of<T, Input>(tokens: T) -> OneOf<T, Input>
 pub fn none_of<T, Input>(tokens: T) -> NoneOf<T, Input>
     ensures { result ≡ none_of_parser tokens }
 {
-    NoneOf {
+    Listed {
         tokens,
         reads: PhantomData,
+        wants: PhantomData,
     }
 }
 

@@ -85,15 +85,7 @@ impl<Input: StreamOnce> Outputs<Input> for Any<Input> {
 impl<Input: Stream> Parser<Input> for Any<Input> {
     type PartialState = ();
 
-    ghost lawful = { λ p. Unit {0} };
-
-    ghost determined = { λ p. Unit {0} };
-
-    ghost valid = { λ s. Unit {0} };
-
     ghost meaning = { λ p. takes_one Input.Error.observers (satisfied (of_function (λ t. true))) (Unit {0}) AddsNothing };
-
-    ghost parts = { λ p. 1 };
 
     #[inline(always)]
     fn parse_mode<M: ParseMode>(
@@ -136,11 +128,7 @@ impl<Input: Stream, F: Function<Input::Token, Output = bool>> Parser<Input> for 
 
     ghost determined = { λ p. IsPredicate (F.returns p.predicate) };
 
-    ghost valid = { λ s. Unit {0} };
-
     ghost meaning = { λ p. takes_one Input.Error.observers (satisfied (F.returns p.predicate)) (Unit {0}) AddsNothing };
-
-    ghost parts = { λ p. 1 };
 
     #[inline(always)]
     fn parse_mode<M: ParseMode>(
@@ -187,11 +175,7 @@ impl<Input: Stream, B: Drop, F: Function<Input::Token, Output = Option<B>>> Pars
 
     ghost determined = { λ p. IsTest (F.returns p.predicate) };
 
-    ghost valid = { λ s. Unit {0} };
-
     ghost meaning = { λ p. takes_one Input.Error.observers (of_token (F.returns p.predicate)) (Unit {0}) AddsNothing };
-
-    ghost parts = { λ p. 1 };
 
     #[inline(always)]
     fn parse_mode<M: ParseMode>(
@@ -235,15 +219,7 @@ where
 {
     type PartialState = ();
 
-    ghost lawful = { λ p. Unit {0} };
-
-    ghost determined = { λ p. Unit {0} };
-
-    ghost valid = { λ s. Unit {0} };
-
     ghost meaning = { λ p. takes_one Input.Error.observers (satisfied (of_function (λ t. Input.Token.eq t p.token))) (Unit {0}) (Only (Expected (OfToken p.token))) };
-
-    ghost parts = { λ p. 1 };
 
     #[inline(always)]
     fn parse_mode<M: ParseMode>(
@@ -285,15 +261,7 @@ impl<Input: StreamOnce> Outputs<Input> for Position<Input> {
 impl<Input: Stream> Parser<Input> for Position<Input> {
     type PartialState = ();
 
-    ghost lawful = { λ p. Unit {0} };
-
-    ghost determined = { λ p. Unit {0} };
-
-    ghost valid = { λ s. Unit {0} };
-
     ghost meaning = { λ p. given_meaning (λ at v. v ≡ at) (Unit {0}) AddsNothing };
-
-    ghost parts = { λ p. 1 };
 
     #[inline(always)]
     fn parse_mode<M: ParseMode>(
@@ -327,15 +295,7 @@ impl<Input, T: Drop> Outputs<Input> for Value<Input, T> {
 impl<Input: Stream, T: Clone> Parser<Input> for Value<Input, T> {
     type PartialState = ();
 
-    ghost lawful = { λ p. Unit {0} };
-
-    ghost determined = { λ p. Unit {0} };
-
-    ghost valid = { λ s. Unit {0} };
-
     ghost meaning = { λ p. given_meaning (λ at v. T.is_clone p.value v) (T.is_infallible p.value) AddsNothing };
-
-    ghost parts = { λ p. 1 };
 
     #[inline(always)]
     fn parse_mode<M: ParseMode>(
@@ -380,13 +340,7 @@ where
 
     ghost lawful = { λ p. F.callable p.function };
 
-    ghost determined = { λ p. Unit {0} };
-
-    ghost valid = { λ s. Unit {0} };
-
     ghost meaning = { λ p. given_meaning (λ at v. F.returns p.function v) (Unit {0}) AddsNothing };
-
-    ghost parts = { λ p. 1 };
 
     #[inline(always)]
     fn parse_mode<M: ParseMode>(
@@ -420,15 +374,7 @@ impl<Input> Outputs<Input> for Eof<Input> {
 impl<Input: Stream> Parser<Input> for Eof<Input> {
     type PartialState = ();
 
-    ghost lawful = { λ p. Unit {0} };
-
-    ghost determined = { λ p. Unit {0} };
-
-    ghost valid = { λ s. Unit {0} };
-
     ghost meaning = { λ p. takes_one Input.Error.observers ends_there (Unit {0}) (Only (Expected (Fixed (codes "end of input")))) };
-
-    ghost parts = { λ p. 1 };
 
     #[inline(always)]
     fn parse_mode<M: ParseMode>(

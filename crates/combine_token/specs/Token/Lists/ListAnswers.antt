@@ -3,12 +3,12 @@ use Rattle.std.specs.Prelude.{◌≡◌, ◌<◌, ◌⊎◌, List, [], ◌∷◌
 use Rattle.combine_base.specs.Stream.View.{View, Moves}
 use Rattle.combine_base.specs.Error.Items.{ErrorItem, Unexpected, Expected, OfToken, shown}
 use Rattle.combine_base.specs.Error.Errors.{Observers, New, AddsItems}
-use Rattle.combine_base.specs.declared.error.Info.{Info}
+use Rattle.combine_base.specs.declared.error.info.Info.{Info}
 use Rattle.combine_base.specs.declared.stream.Kind.{Kind}
 use Rattle.combine_base.specs.declared.stream.Kind.TheVariants as kinds
 use Rattle.combine_base.specs.declared.stream.Failures.{Failures}
-use Rattle.combine_base.specs.declared.error.ParseResult.{ParseResult}
-use Rattle.combine_base.specs.declared.error.ParseResult.TheVariants.{CommitOk, PeekOk, CommitErr, PeekErr}
+use Rattle.combine_base.specs.declared.error.result.ParseResult.{ParseResult}
+use Rattle.combine_base.specs.declared.error.result.ParseResult.TheVariants.{CommitOk, PeekOk, CommitErr, PeekErr}
 
 module _ {V E : Type 0} (kind : E → Kind) (gives : V → Type 0) (infallible : Type 0) (committed : Bool) where
   abbrev pub accepts_list : ParseResult V E → Type 0

@@ -8,8 +8,8 @@ use Rattle.std.specs.declared.iter.Iterator as iterator
 use Rattle.combine_base.specs.Error.Errors.{Observers}
 use Rattle.combine_base.specs.Parser.AnswersCalls.{AnswersCall}
 use Rattle.combine_base.specs.Parser.Reasons.{Reasoned}
-use Rattle.combine_base.specs.declared.error.Info.{Info}
-use Rattle.combine_base.specs.declared.error.ParseResult.{ParseResult}
+use Rattle.combine_base.specs.declared.error.info.Info.{Info}
+use Rattle.combine_base.specs.declared.error.result.ParseResult.{ParseResult}
 use Rattle.combine_base.specs.declared.stream.StreamOnce as stream
 use Rattle.combine_token.specs.Token.Lists.IteratedLists.{iterated_tokens}
 use Rattle.combine_token.specs.Token.Lists.ListAnswers.{expecting}

@@ -8,7 +8,7 @@ use Rattle.combine_base.specs.Error.Errors.{Observers}
 use Rattle.combine_base.specs.Error.Items.{ErrorItem}
 use Rattle.combine_base.specs.Parser.Outcome.{Outcome, Accepted, Refused, Undecided, IsDecided, shape}
 use Rattle.combine_base.specs.Parser.Meaning.{Meaning, IsReading, IsSingle, IsMeaning, MeansOne}
-use Rattle.combine_base.specs.declared.error.Info.{Info}
+use Rattle.combine_base.specs.declared.error.info.Info.{Info}
 use Rattle.combine_token.specs.Token.TokenReasons.{RefusesList}
 use Rattle.combine_token.specs.Token.Lists.TokenLists.{TokenList, ListEndsOnce, ComparesOnce, Matched, all_fit, mismatch_at, matching_at, matching}
 

@@ -77,11 +77,7 @@ where
 
     ghost determined = { λ p. ComparesOnce (iterated_tokens T.is_clone T.into_iter_gives T.IntoIter.next_gives p.tokens (C.returns p.cmp)) };
 
-    ghost valid = { λ s. Unit {0} };
-
     ghost meaning = { λ p. token_list Input.Error.observers (iterated_tokens T.is_clone T.into_iter_gives T.IntoIter.next_gives p.tokens (C.returns p.cmp)) (Some p.expected) (T.is_clone p.tokens) (λ s. s.matched) (T.is_infallible p.tokens) (Only (Expected (shown p.expected))) };
-
-    ghost parts = { λ _. 1 };
 
     ghost default_valid = { λ s d. tt };
 
@@ -144,11 +140,7 @@ where
 
     ghost determined = { λ p. ComparesOnce (iterated_tokens T.is_clone T.into_iter_gives T.IntoIter.next_gives p.tokens (C.returns p.cmp)) };
 
-    ghost valid = { λ s. Unit {0} };
-
     ghost meaning = { λ p. token_list Input.Error.observers (iterated_tokens T.is_clone T.into_iter_gives T.IntoIter.next_gives p.tokens (C.returns p.cmp)) None (T.is_clone p.tokens) (λ s. s.matched) (T.is_infallible p.tokens) AddsNothing };
-
-    ghost parts = { λ _. 1 };
 
     ghost default_valid = { λ s d. tt };
 

@@ -1,7 +1,7 @@
 use Rattle.std.proofs.Common.{◌-◌, arith, refl, sym}
 use Rattle.example_callers.specs.Nests.{closed, inside, nest, nest_few, nest_is_reading, none_there, opened, opened_is_reading, second, too_deep}
 use Rattle.example_callers.proofs.Nests.{deeper_there, no_bracket, too_deep_there}
-use Rattle.combine_combinator_function.proofs.Once.{as_it_is, commits_once, gives_once, peeks_once, refused_once, stops_once, stops_peeked}
+use Rattle.combine_function.proofs.Once.{as_it_is, commits_once, gives_once, peeks_once, refused_once, stops_once, stops_peeked}
 use Rattle.example_callers.proofs.nest.+brackets.Goals as goal
 
 pub brackets-returns-in-CommitOk : goal.brackets-returns-in-CommitOk

@@ -1,4 +1,4 @@
-use Rattle.combine_combinator_function.proofs.Once.{run_once}
+use Rattle.combine_function.proofs.Once.{run_once}
 use Rattle.example_callers.proofs.nest.closed.Goals as goal
 
 pub returns : goal.returns

@@ -4,7 +4,7 @@ use Rattle.std.specs.Global.{Vec}
 use Rattle.combine_base.specs.Stream.Slices.{one_less}
 use Rattle.combine_base.specs.declared.stream.slices.Left.{Left}
 use Rattle.combine_decode.specs.Frames.{framed, length_read}
-use Rattle.combine_byte_num.specs.Numbers.{big_endian}
+use Rattle.combine_byte.specs.Numbers.{big_endian}
 use Rattle.combine_facts.proofs.Facts.{Reads, any_one, any_reads, changed, mapped_reads, parse_reads, reads_by, two, two_reads}
 use Rattle.example_callers.specs.Records.{IsRecord}
 use Rattle.example_callers.specs.declared.records.Record.{Record}

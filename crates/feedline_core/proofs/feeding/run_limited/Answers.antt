@@ -1,10 +1,10 @@
 use Rattle.std.proofs.Common.{ℕ, ◌<◌, ◌^◌, rules, map, length, ap, sym, subst, ◌∙◌}
 use Rattle.combine_session.specs.Pieces.{concatenated}
 use Rattle.combine_base.specs.Parser.Meaning.{Meaning}
-use Rattle.combine_base.specs.declared.error.UnexpectedParse.{UnexpectedParse}
+use Rattle.combine_base.specs.declared.error.unexpected.UnexpectedParse.{UnexpectedParse}
 use Rattle.combine_base.specs.declared.sequence.SequenceState.{SequenceState}
-use Rattle.combine_base.specs.declared.sequence.PartialState4.{PartialState4}
-use Rattle.combine_combinator.specs.declared.combinator.TryState.{TryState}
+use Rattle.combine_base.specs.declared.sequence.states.PartialState4.{PartialState4}
+use Rattle.combine_combinator.specs.declared.combinator.types.TryState.{TryState}
 use Rattle.combine_combinator.specs.declared.combinator.types.Try.{Try}
 use Rattle.combine_token.specs.declared.token.types.Token.{Token}
 use Rattle.feedline_core.proofs.OnInput.{joined_whole, runs_on_input}

@@ -4,7 +4,7 @@ use Rattle.combine_base.specs.Error.Items.{Expected, OfToken}
 use Rattle.combine_base.specs.Error.NoItems.{no_items}
 use Rattle.combine_base.specs.Error.Results.{from_standard}
 use Rattle.combine_token.specs.Token.OneToken.{of_function, of_function_is_predicate, one_token_is_reading, one_token_is_single, satisfied, satisfied_is_test, takes_one}
-use Rattle.combine_combinator_function.proofs.PlainFunctions.{env_is_single, env_needs_no_memory, plain_is_single, plain_needs_no_memory, runs_at, runs_with}
+use Rattle.combine_function.proofs.PlainFunctions.{env_is_single, env_needs_no_memory, plain_is_single, plain_needs_no_memory, runs_at, runs_with}
 use Rattle.tests_promises.proofs.called.of_functions.Goals as goal
 
 pub puts_back_without_memory-requires-clause-determined : goal.puts_back_without_memory-requires-clause-determined

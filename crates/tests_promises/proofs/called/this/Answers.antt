@@ -1,4 +1,4 @@
-use Rattle.combine_combinator_function.proofs.Once.{standard_back}
+use Rattle.combine_function.proofs.Once.{standard_back}
 use Rattle.tests_promises.proofs.called.this.Goals as goal
 
 pub returns : goal.returns

@@ -1,7 +1,7 @@
 use Rattle.std.proofs.Common.{◌≡◌, ◌∙◌, of_calls, rules, sym}
-use Rattle.combine_byte_num.specs.Numbers.{big_endian}
+use Rattle.combine_byte.specs.Numbers.{big_endian}
 use Rattle.combine_decode.specs.Frames.{frame_of}
-use Rattle.combine_repeat_turns.specs.Repeat.RepeatParsers.{count_min_max_of}
+use Rattle.combine_repeat.specs.Repeat.RepeatParsers.{count_min_max_of}
 use Rattle.combine_token.specs.Token.TokenParsers.{any_parser}
 use Rattle.tests_promises.proofs.OneOutcome.{counted_is_single, one_for_number}
 use Rattle.tests_promises.proofs.decoding.frames.Goals as goal

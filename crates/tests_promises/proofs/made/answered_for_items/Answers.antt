@@ -1,8 +1,8 @@
 use Rattle.std.proofs.Common.{◌≡◌, of_calls, refl, true}
-use Rattle.combine_choice_dispatch.specs.declared.variants.either.Either.TheVariants.{Left}
+use Rattle.combine_choice.specs.declared.variants.either.Either.TheVariants.{Left}
 use Rattle.combine_token.specs.Token.OneToken.{of_function, of_function_is_predicate, one_token_is_single, satisfied, satisfied_is_test}
 use Rattle.combine_token.specs.Token.TokenParsers.{any_parser}
-use Rattle.combine_repeat_iterate.proofs.OneAsked.{one_asked}
+use Rattle.combine_repeat.proofs.OneAsked.{one_asked}
 use Rattle.tests_promises.proofs.made.answered_for_items.Goals as goal
 
 pub keeps-requires-clause-determined : goal.keeps-requires-clause-determined

@@ -1,8 +1,8 @@
 use Rattle.std.proofs.Common.{nat_eq, of_calls, refl, sym}
 use Rattle.combine_token.specs.Token.OneToken.{of_function, of_function_is_predicate, one_token_is_single, satisfied, satisfied_is_test}
 use Rattle.combine_token.specs.Token.TokenParsers.{token_parser}
-use Rattle.combine_combinator_lazy.proofs.OneMade.{one_made}
-use Rattle.combine_repeat_iterate.proofs.OneAsked.{one_asked}
+use Rattle.combine_combinator.proofs.OneMade.{one_made}
+use Rattle.combine_repeat.proofs.OneAsked.{one_asked}
 use Rattle.tests_promises.proofs.made.made.Goals as goal
 
 pub keeps_without_memory-requires-2-clause-determined : goal.keeps_without_memory-requires-2-clause-determined

@@ -1,5 +1,5 @@
 use Rattle.std.proofs.Common.{of_calls, ◌∙◌}
-use Rattle.combine_range_search.specs.declared.search.TakeRange.TheVariants.{Found}
+use Rattle.combine_byte.specs.declared.search.TakeRange.TheVariants.{Found}
 use Rattle.tests_promises.proofs.ranges.found.Goals as goal
 
 pub puts_back_without_memory-requires-clause-determined : goal.puts_back_without_memory-requires-clause-determined

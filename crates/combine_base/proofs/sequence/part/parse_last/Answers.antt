@@ -1,6 +1,6 @@
 use Rattle.std.proofs.Common.{inl, inr, ap, refl}
 use Rattle.combine_base.specs.Parser.Answer.{world}
-use Rattle.combine_base.specs.declared.error.ParseResult.TheVariants.{CommitOk, CommitErr}
+use Rattle.combine_base.specs.declared.error.result.ParseResult.TheVariants.{CommitOk, CommitErr}
 use Rattle.combine_base.proofs.Errors.MeantRefusals.{explained_at_rest}
 use Rattle.combine_base.proofs.Parsers.CallStarts.{at_rest}
 use Rattle.combine_base.proofs.sequence.part.parse_last.Goals as goal

@@ -5,11 +5,11 @@ use Rattle.combine_decode.proofs.FrameAnswers.{is_framed}
 use Rattle.combine_decode.proofs.decode.laws.frame_is_a_length_and_its_bytes.Goals as goal
 use Rattle.combine_token.specs.Token.OneToken.{of_function, one_token, satisfied}
 use Rattle.combine_token.specs.Token.TokenParsers.{any_parser}
-use Rattle.combine_repeat_turns.specs.Turns.Bounds.{bounded, none_yet}
-use Rattle.combine_repeat_turns.specs.Repeat.RepeatParsers.{count_min_max_of, repeat_min, repeat_max}
-use Rattle.combine_repeat_turns.specs.Repeat.Repeated.{appended, no_value_ends}
-use Rattle.combine_repeat_turns.specs.Turns.Blocks.{TurnsOutcome}
-use Rattle.combine_repeat_turns.specs.declared.bounds.Bounds.TheVariants.{Counted}
+use Rattle.combine_repeat.specs.Turns.Bounds.{bounded, none_yet}
+use Rattle.combine_repeat.specs.Repeat.RepeatParsers.{count_min_max_of, repeat_min, repeat_max}
+use Rattle.combine_repeat.specs.Repeat.Repeated.{appended, no_value_ends}
+use Rattle.combine_repeat.specs.Turns.Blocks.{TurnsOutcome}
+use Rattle.combine_repeat.specs.declared.bounds.Bounds.TheVariants.{Counted}
 
 pub returns : goal.returns
 returns g c v o h =

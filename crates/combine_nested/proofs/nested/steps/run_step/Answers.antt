@@ -2,7 +2,7 @@ use Rattle.std.proofs.Common.{inl, inr, refl, ap}
 use Rattle.combine_base.specs.Parser.Answer.{world}
 use Rattle.combine_base.proofs.Errors.MeantRefusals.{explained_at_rest}
 use Rattle.combine_base.proofs.Parsers.CallStarts.{at_rest}
-use Rattle.combine_base.specs.declared.error.ParseResult.TheVariants.{CommitOk, PeekOk, CommitErr, PeekErr}
+use Rattle.combine_base.specs.declared.error.result.ParseResult.TheVariants.{CommitOk, PeekOk, CommitErr, PeekErr}
 use Rattle.combine_nested.specs.declared.nested.steps.Did.TheVariants as dids
 use Rattle.combine_nested.proofs.nested.steps.run_step.Goals as goal
 use Rattle.combine_nested.proofs.nested.steps.run_step.Goals.{in-CommitOk, in-PeekOk}

@@ -1,7 +1,7 @@
 use Rattle.std.proofs.Common.{inl, inr, refl, ap, ◌∙◌}
 use Rattle.combine_base.specs.Parser.Answer.{world}
 use Rattle.combine_base.specs.Sequence.Parts.{accepted_as}
-use Rattle.combine_base.specs.declared.error.ParseResult.TheVariants.{CommitErr, CommitOk}
+use Rattle.combine_base.specs.declared.error.result.ParseResult.TheVariants.{CommitErr, CommitOk}
 use Rattle.combine_base.proofs.Errors.MeantRefusals.{explained_at_rest}
 use Rattle.combine_base.proofs.Parsers.CallStarts.{at_rest}
 use Rattle.combine_sequence.proofs.sequence.answered.parse_answered.Goals as goal

@@ -14,12 +14,12 @@ place_after-requires c =
     let y = c.requires.1 in
     (omega arith, omega arith)
 
-pub put-requires : goal.put-requires
-put-requires c =
+pub here-requires : goal.here-requires
+here-requires c =
     let h = c.in-Ok.ensures in
     subst (λ p. CountsFit p (length c.in-Ok.back.now)) (sym c.place_after.ensures.place) (back_fits _ _ _ _ _ h.1 c.args.place c.requires c.utf8.rest c.place_after.ensures.text)
 
 pub returns-in-Ok : goal.returns-in-Ok
 returns-in-Ok c =
     let h = c.in-Ok.ensures in
-    (h.0, subst (λ b. Cut c.args.rest.now c.args.n h.0 c.in-Ok.front.now b) (sym c.put.ensures.rest) h.1, c.put.ensures.place ∙ c.place_after.ensures.place ∙ ap (after_all next_place c.args.place) (front_chars _ _ _ _ _ h.1 c.place_after.ensures.text))
+    (h.0, subst (λ b. Cut c.args.rest.now c.args.n h.0 c.in-Ok.front.now b) (sym c.here.ensures.rest) h.1, c.here.ensures.place ∙ c.place_after.ensures.place ∙ ap (after_all next_place c.args.place) (front_chars _ _ _ _ _ h.1 c.place_after.ensures.text))

@@ -4,7 +4,7 @@ use Rattle.combine_base.specs.Error.Errors.{AddsNothing}
 use Rattle.combine_base.specs.Parser.Meaning.{any_error}
 use Rattle.combine_token.proofs.Tokens.Stateless.{stateless_reasons}
 use Rattle.example_callers.specs.Nests.{nest}
-use Rattle.combine_combinator_function.proofs.Again.{again_back, again_err, again_ok, again_peek_err, again_peek_ok, again_stuck}
+use Rattle.combine_function.proofs.Again.{again_back, again_err, again_ok, again_peek_err, again_peek_ok, again_stuck}
 use Rattle.example_callers.proofs.nest.NestParser.parse_mode.Goals as goal
 
 pub returns-in-CommitOk-clause-answers : goal.returns-in-CommitOk-clause-answers

@@ -13,4 +13,4 @@ pub returns-clause-same : goal.returns-clause-same
 returns-clause-same g c = same_none _
 
 pub returns-clause-refuses : goal.returns-clause-refuses
-returns-clause-refuses g c = token_reasons g.Input.Error.ParseError.observers (satisfied (of_function g.C.Class.members)) (Unit {0}) (Only (Expected (Fixed g.C.Text.bytes))) (g.M.ParseMode.first c.args.mode) c.args.state.now _ _ _ c.token_if.ensures.refuses
+returns-clause-refuses g c = token_reasons g.Input.Error.ParseError.observers (satisfied (of_function g.C.Class.members)) (Unit {0}) (Only (Expected (Fixed g.C.Class.bytes))) (g.M.ParseMode.first c.args.mode) c.args.state.now _ _ _ c.token_if.ensures.refuses

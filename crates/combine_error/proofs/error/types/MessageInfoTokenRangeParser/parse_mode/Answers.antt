@@ -8,7 +8,7 @@ pub returns-clause-same : goal.returns-clause-same
 returns-clause-same g c = with_one_more_same _ _ _ _ (refuses_with_item_is_monotone g.Input.Error.ParseError.observers _) c.parse_mode-answer.ensures.same
 
 pub returns-clause-answers : goal.returns-clause-answers
-returns-clause-answers g c = adds_on_refusal_answers _ _ _ _ _ _ (refuses_with_item g.Input.Error.ParseError.observers (Message (shown c.args.self.now.info))) _ _ _ _ c.tell.ensures c.parse_mode-answer.ensures.answers
+returns-clause-answers g c = adds_on_refusal_answers _ _ _ _ _ _ (refuses_with_item g.Input.Error.ParseError.observers (Message (shown c.args.self.now.info))) _ _ _ _ c.add_message_to_refusal.ensures c.parse_mode-answer.ensures.answers
 
 pub returns-clause-refuses : goal.returns-clause-refuses
 returns-clause-refuses g c =
@@ -19,4 +19,4 @@ returns-clause-refuses g c =
     let old = g.Input.StreamOnce.view c.args.input.now in
     let new = g.Input.StreamOnce.view c.parse_mode-answer.new.input in
     let item = Message (shown c.args.self.now.info) in
-    saying_reasons m (WithOneMore m.adds item) (refuses_with_item observers item) first state old new (adds_on_refusal_reasons observers new.is_open (begun_refuses m first state) old new item _ _ c.tell.ensures c.parse_mode-answer.ensures.refuses)
+    saying_reasons m (WithOneMore m.adds item) (refuses_with_item observers item) first state old new (adds_on_refusal_reasons observers new.is_open (begun_refuses m first state) old new item _ _ c.add_message_to_refusal.ensures c.parse_mode-answer.ensures.refuses)

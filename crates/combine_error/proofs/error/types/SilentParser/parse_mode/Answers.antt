@@ -8,7 +8,7 @@ pub returns-clause-same : goal.returns-clause-same
 returns-clause-same g c = saying_means_same _ _ AddsNothing AddsNothing _ (refuses_without_expected_is_monotone g.Input.Error.ParseError.observers) c.parse_mode-answer.ensures.same (λ is. (λ i. i, λ i. i))
 
 pub returns-clause-answers : goal.returns-clause-answers
-returns-clause-answers g c = clears_expected_answers _ _ _ _ _ _ (RefusesWithoutExpected g.Input.Error.ParseError.observers) _ _ _ c.hush.ensures c.parse_mode-answer.ensures.answers
+returns-clause-answers g c = clears_expected_answers _ _ _ _ _ _ (RefusesWithoutExpected g.Input.Error.ParseError.observers) _ _ _ c.clear_expected_of_refusal.ensures c.parse_mode-answer.ensures.answers
 
 pub returns-clause-refuses : goal.returns-clause-refuses
 returns-clause-refuses g c =
@@ -18,4 +18,4 @@ returns-clause-refuses g c =
     let state = c.args.state.now in
     let old = g.Input.StreamOnce.view c.args.input.now in
     let new = g.Input.StreamOnce.view c.parse_mode-answer.new.input in
-    saying_reasons m AddsNothing (RefusesWithoutExpected observers) first state old new (clears_expected_reasons observers new.is_open (begun_refuses m first state) old new _ _ c.hush.ensures c.parse_mode-answer.ensures.refuses)
+    saying_reasons m AddsNothing (RefusesWithoutExpected observers) first state old new (clears_expected_reasons observers new.is_open (begun_refuses m first state) old new _ _ c.clear_expected_of_refusal.ensures c.parse_mode-answer.ensures.refuses)

@@ -1,0 +1,14 @@
+use Rattle.std.proofs.Common.{sym, ◌∙◌}
+use Rattle.combine_base.proofs.Sequences.SequenceCalls.{last_called, sequence_called}
+use Rattle.combine_base.proofs.sequence.tuple.longer.more.parse_with_one_more.Goals as goal
+
+pub returns-in-Before-clause-follows : goal.returns-in-Before-clause-follows
+returns-in-Before-clause-follows g c =
+    let first = c.run-answer.ensures in
+    sequence_called g.S.TupleState.place g.T.Push.pushed c.requires.fresh g.met.Q.Front.fresh_valid (g.met.Q.Front.laws c.args.before.now c.requires.lawful.0) (g.met.E.Parser.laws c.args.e.now c.requires.lawful.1) (sym c.into_place.ensures ∙ c.in-Before.is) c.requires.valid first.valid first.same first.passes first.answers first.refuses c.parse_rest.ensures
+
+pub returns-in-Last-clause-lent : goal.returns-in-Last-clause-lent
+returns-in-Last-clause-lent g c = g.met.Q.Front.unchanged c.args.before.now
+
+pub returns-in-Last-clause-follows : goal.returns-in-Last-clause-follows
+returns-in-Last-clause-follows g c = last_called g.S.TupleState.place g.T.Push.pushed c.requires.fresh (g.Q.Front.meaning c.args.before.now) g.met.Q.Front.fresh_valid (sym c.into_place.ensures ∙ c.in-Last.is) c.resume_last.ensures

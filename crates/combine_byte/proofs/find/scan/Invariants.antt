@@ -1,0 +1,10 @@
+use Rattle.std.proofs.Common.{◌≡◌, take}
+use Rattle.combine_stream.specs.Range.Ranges.{Longest}
+use Rattle.combine_byte.specs.Bytes.ByteScans.{fails_all}
+use Rattle.combine_byte.proofs.find.scan.Given as goal
+
+abbrev pub invariant-loop-byte : goal.invariant-loop-byte
+invariant-loop-byte g l = record {
+  count : l.n ≡ l.byte-index;
+  none : Longest (fails_all (g.T.ByteTest.passes l.fn.test)) (take l.byte-index l.fn.bytes) l.byte-index;
+}

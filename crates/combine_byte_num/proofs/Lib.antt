@@ -1,2 +1,0 @@
-pub mod ByteSums
-pub mod NumberCalls

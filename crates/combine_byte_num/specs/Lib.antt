@@ -1,5 +1,0 @@
-pub use Rattle.combine_base.specs.Error.Errors
-pub use Rattle.combine_base.specs.Parser.Meaning
-pub use Rattle.combine_token.specs.Token.Stateless
-pub mod Numbers
-pub mod WholeNumbers

@@ -1,6 +1,0 @@
-use Rattle.std.proofs.Common.{sym}
-use Rattle.combine_char.proofs.Letters.{ascii_letters}
-use Rattle.combine_char.proofs.char.classes.LetterClassChar.has.Goals as goal
-
-pub returns-then-is_ascii_alphabetic : goal.returns-then-is_ascii_alphabetic
-returns-then-is_ascii_alphabetic c = ascii_letters c.args.token (sym c.if-is_ascii_alphabetic.ensures.value)

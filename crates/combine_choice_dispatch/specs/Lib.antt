@@ -1,2 +1,0 @@
-pub mod HeldParser
-pub mod Variants2

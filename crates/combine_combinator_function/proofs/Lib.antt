@@ -1,6 +1,0 @@
-pub mod Again
-pub mod FunctionCalls
-pub mod Changes
-pub mod Once
-pub mod PlainFunctions
-pub mod Unexpected

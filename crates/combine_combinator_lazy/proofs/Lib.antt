@@ -1,2 +1,0 @@
-mod MadeAnswers
-pub mod OneMade

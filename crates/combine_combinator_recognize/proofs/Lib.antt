@@ -1,2 +1,0 @@
-mod TokenCollection
-mod RecognizedAnswers

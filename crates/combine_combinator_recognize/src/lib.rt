@@ -1,5 +1,0 @@
-//! The tokens that a parser takes, collected: `recognize`.
-#![tactic(auto)]
-
-mod collecting;
-pub mod combinator;

@@ -1,5 +1,0 @@
-use Rattle.combine_combinator_spanned.specs.SpannedErrors.{spanned_means_same}
-use Rattle.combine_combinator_spanned.proofs.combinator.types.SpannedParser.add_error.Goals as goal
-
-pub returns-clause-same : goal.returns-clause-same
-returns-clause-same g c = spanned_means_same _ _ _ c.add_error.ensures.same

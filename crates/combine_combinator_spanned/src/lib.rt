@@ -1,4 +1,0 @@
-//! Errors at spans: `spanned`.
-#![tactic(auto)]
-
-pub mod combinator;

@@ -1,5 +1,0 @@
-mod CompleteExpressions
-mod PartSteps
-mod Reductions
-mod OpenExpressions
-pub mod AlikeParts

@@ -1,4 +1,0 @@
-//! Expressions of operators with levels.
-#![tactic(auto)]
-
-pub mod expression;

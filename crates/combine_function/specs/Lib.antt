@@ -1,0 +1,9 @@
+pub use Rattle.combine_base.specs.Error.Errors
+pub use Rattle.combine_base.specs.Error.Items
+pub use Rattle.combine_base.specs.Parser.Meaning
+pub use Rattle.combine_token.specs.Token.Stateless
+pub mod Changes
+pub mod Functions
+pub mod ChangeParsers
+pub mod OneRun
+pub mod Once

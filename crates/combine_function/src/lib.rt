@@ -1,0 +1,5 @@
+//! Parsers made of a caller's function.
+#![tactic(auto)]
+
+pub mod combinator;
+pub mod function;

@@ -1,0 +1,175 @@
+//! Expressions of prefix, postfix and infix operators, by their levels.
+//!
+//! A language of expressions is a table of levels, of which the first binds least: each says where its operators stand, and how they group. An operand of an operator is an expression of that operator's level or a higher one, and on a side on which the operator doesn't group, of a higher one alone. So a grammar of one rule for each level is written as a table.
+ghost use Rattle.std.specs.Prelude.{◌≡◌};
+ghost use Rattle.combine_nested.specs.Asks.{if_else_of};
+ghost use Rattle.combine_nested.specs.NestedSteps.{step_asker, depth_part, root_part};
+ghost use Rattle.combine_nested.specs.ExpressionParts.{MakesOutermost};
+
+pub mod laws;
+pub mod operands;
+pub mod types;
+
+use crate::nested::{if_else, nested};
+use std::alloc::{AllocError, AllocFailed, Global};
+use types::{Awaits, Expression, InBrackets, Outermost};
+
+/// Where the operators of a level stand, and how they group.
+#[derive(Clone, Copy, PartialEq, Eq, Debug, Drop)]
+pub enum Fixity {
+    /// In front of its operand, which may begin with another of the level.
+    Prefix,
+    /// After its operand, which may end in another of the level.
+    Postfix,
+    /// Between two operands, and of two the left one binds first: `a - b - c` is `(a - b) - c`.
+    Left,
+    /// Between two operands, and of two the right one binds first: `a ^ b ^ c` is `a ^ (b ^ c)`.
+    Right,
+    /// Between two operands, of which none is another of the level: `a < b < c` is refused.
+    Neither,
+}
+
+/// Why an operator makes no value.
+#[derive(Clone, Copy, Debug, PartialEq, Eq, Drop)]
+pub enum OperatorError {
+    /// It refuses its operands, with this message.
+    Refused(&'static str),
+    /// It finds no memory.
+    Memory,
+}
+
+impl From<&'static str> for OperatorError {
+    ghost use Rattle.combine_nested.specs.declared.expression.OperatorError.TheVariants.{Refused};
+
+    ghost from_gives = { λ message error. error ≡ Refused message };
+
+    fn from(message: &'static str) -> Self {
+        OperatorError::Refused(message)
+    }
+}
+
+impl From<AllocError> for OperatorError {
+    ghost use Rattle.combine_nested.specs.declared.expression.OperatorError.TheVariants.{Memory};
+
+    ghost from_gives = { λ _ error. error ≡ Memory };
+
+    fn from(_error: AllocError) -> Self {
+        OperatorError::Memory
+    }
+}
+
+// So that `Box::new(value)?` converts. The value is dropped.
+impl<T: Drop> From<AllocFailed<T>> for OperatorError {
+    ghost use Rattle.combine_nested.specs.declared.expression.OperatorError.TheVariants.{Memory};
+
+    ghost from_gives = { λ _ error. error ≡ Memory };
+
+    fn from(_refused: AllocFailed<T>) -> Self {
+        OperatorError::Memory
+    }
+}
+
+/// An operator of a caller's own.
+pub trait Operator: Drop {
+    ghost use Rattle.std.specs.Prelude.{List, MatchResult, ℕ};
+    ghost use Rattle.combine_nested.specs.OpenExpressions.{unless_memory};
+
+    /// What an expression is worth.
+    type Value: Drop;
+
+    /// What may come of the value of its one operand. An operator that doesn't define it promises nothing.
+    ghost changes: { Self → Self.Value → Self.Value → Type 0 } = { λ _ _ _. Unit {0} };
+
+    /// What may come of the values of its left and its right operand. An operator that doesn't define it promises nothing.
+    ghost joins: { Self → Self.Value → Self.Value → Self.Value → Type 0 } = { λ _ _ _ _. Unit {0} };
+
+    /// What operand it may refuse, with this message. An operator that doesn't define it may refuse any.
+    ghost refuses_operand: { Self → Self.Value → List ℕ → Type 0 } = { λ _ _ _. Unit {0} };
+
+    /// What operands it may refuse, with this message. An operator that doesn't define it may refuse any.
+    ghost refuses_operands: { Self → Self.Value → Self.Value → List ℕ → Type 0 } = { λ _ _ _ _. Unit {0} };
+
+    /// Returns the value that a prefix or a postfix operator makes of its operand's.
+    ///
+    /// # Errors
+    ///
+    /// `Refused` with a message if it refuses the operand, and `Memory` if it finds none.
+    fn change(self, operand: Self::Value) -> Result<Self::Value, OperatorError>
+        ensures { MatchResult result (changes self operand) (unless_memory (refuses_operand self operand)) };
+
+    /// Returns the value that an infix operator makes of its operands'.
+    ///
+    /// # Errors
+    ///
+    /// `Refused` with a message if it refuses the operands, and `Memory` if it finds none.
+    fn join(self, left: Self::Value, right: Self::Value) -> Result<Self::Value, OperatorError>
+        ensures { MatchResult result (joins self left right) (unless_memory (refuses_operands self left right)) };
+}
+
+/// What a step of an expression reads.
+///
+/// An operator stands with its level.
+#[derive(Drop)]
+pub enum Item<O, V> {
+    /// An operand.
+    Operand(V),
+    /// An operator in front of its operand.
+    Prefix(usize, O),
+    /// An operator after its operand.
+    Postfix(usize, O),
+    /// An operator between its operands.
+    Infix(usize, O),
+    /// An opening bracket, where an operand is awaited.
+    Open,
+    /// The closing bracket; outside of brackets, the end of the expression.
+    Close,
+}
+
+/// Parses an expression of operators with levels, and with brackets inside one another, at most `depth` of them.
+///
+/// `awaited: Fn(&Part<O, O::Value, N>) -> P, P: Parser<Input, Output = Item<O, O::Value>>`, or a `RefFunction`, as `always` returns; so are `inside` and `outside`.
+///
+/// `levels` says how the operators of each level stand and group, the level first that binds least. An operator of a level that it doesn't have fits nowhere. The value is that of the expression in which what is in brackets is an operand; it is committed exactly if a step was.
+///
+/// Three functions return the parsers of the steps:
+///
+/// - `awaited` that of what stands where an operand is awaited: an operand, a prefix operator or an opening bracket.
+/// - `inside` that of what stands after an operand in brackets: an operator, or [`Item::Close`] for the closing bracket.
+/// - `outside` that of what stands after an operand outside of brackets: an operator, or [`Item::Close`] where no operator follows, as `map(optional(operator), |next| next.unwrap_or(Item::Close))`.
+///
+/// A closure has to write its parameter's type, that of the part that is open: `|_: &Part<O, V, N>| ..`, with `Part` of [`types`]. [`always`](crate::nested::always) takes a parser that is `Copy`, [`always_with`](crate::nested::always_with) a function that makes it. Each is as a step of [`nested`].
+///
+/// # Errors
+///
+/// - What a step's parser refuses is refused, committed if a step before it was.
+/// - What an operator refuses is refused with its message. An operator is given its operands as soon as the item after them shows that they are complete, a postfix operator as soon as it is read.
+/// - What no expression begins with is refused: an operator with the message `operator cannot stand here`, an operand after an operand with `operand cannot stand here`, and an end where an operand is awaited with `operand expected`. A bracket that opens after an operand is refused, as an operand, where it closes.
+/// - A bracket too many is refused committed, with the message `nesting too deep`.
+/// - An operator that finds no memory is the fault `Memory`.
+///
+/// The second and the third are committed if this step or one before it was.
+///
+/// # Partial input
+///
+/// The state keeps the operators and the operands that wait, and the step that runs. Nothing is left unread where the parsers of the steps leave nothing.
+///
+/// # Examples
+///
+/// With the levels `[Left, Left, Prefix, Right]` of `+`, `*`, `-` in front and `^`, `1 + 2 * 3` is `1 + (2 * 3)`, and `-2 ^ 2` is `-(2 ^ 2)`. `2 ^ -2` is refused, since what is on the right of `^` is of its level or a higher one.
+#[inline]
+pub fn expression<O: Operator, A, B, C, const N: usize>(
+    alloc: Global,
+    depth: usize,
+    levels: [Fixity; N],
+    awaited: A,
+    inside: B,
+    outside: C,
+) -> Expression<O, O::Value, A, B, C, N>
+    ensures depth { depth_part result ≡ depth }
+    ensures root { MakesOutermost alloc levels.entry (root_part result) }
+    ensures steps { step_asker result ≡ if_else_of record {} awaited (if_else_of record {} inside outside) }
+{
+    let behind = if_else(InBrackets, inside, outside);
+    let steps = if_else(Awaits, awaited, behind);
+    nested(alloc, depth, Outermost::new(alloc, levels), steps)
+}

@@ -1,3 +1,0 @@
-pub mod OneLengths
-pub mod LengthAndItems
-pub mod PrefixErrors

@@ -1,3 +1,0 @@
-pub use Rattle.combine_base.specs.Parser.Meaning
-pub mod LengthParsers
-pub mod Prefixes

@@ -1,5 +1,0 @@
-pub mod ItemLimit
-pub mod SearchCalls
-pub mod ByteSearch
-pub mod SearchReasons
-pub mod ByteScans

@@ -1,5 +1,0 @@
-use Rattle.combine_range_search.specs.Search.StableFunctions.{stable_is_one}
-use Rattle.combine_range_search.proofs.laws.stable_has_one_outcome.Goals as goal
-
-pub returns : goal.returns
-returns g c = λ f h. stable_is_one _ _ _ f h

@@ -1,5 +1,0 @@
-use Rattle.combine_range_search.specs.Search.StableFunctions.{found_is, missing_is, searching_as}
-use Rattle.combine_range_search.proofs.laws.stable_means_what_it_answers.Goals as goal
-
-pub returns : goal.returns
-returns g c = λ f h d v o. searching_as _ _ _ (found_is _ _ _ f h) (missing_is _ _ _ f h) d.items _ v o

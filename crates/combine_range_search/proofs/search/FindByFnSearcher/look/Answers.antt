@@ -1,5 +1,0 @@
-use Rattle.combine_range_search.specs.Search.TakeFn.{searched_of_all}
-use Rattle.combine_range_search.proofs.search.FindByFnSearcher.look.Goals as goal
-
-pub returns : goal.returns
-returns g c = λ us s. searched_of_all _ _ _ us c.args.range s c.into.result (c.call.result, c.call.ensures, c.into.ensures)

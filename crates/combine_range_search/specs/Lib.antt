@@ -1,3 +1,0 @@
-pub use Rattle.combine_base.specs.Parser.Meaning
-pub mod Search
-pub mod Bytes

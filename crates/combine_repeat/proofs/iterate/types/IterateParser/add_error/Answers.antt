@@ -1,0 +1,5 @@
+use Rattle.combine_base.proofs.Parsers.SameMeanings.{same_none}
+use Rattle.combine_repeat.proofs.iterate.types.IterateParser.add_error.Goals as goal
+
+pub returns-clause-same : goal.returns-clause-same
+returns-clause-same g c = same_none _

@@ -1,0 +1,204 @@
+//! Counted repetitions: a parser runs turn after turn, until it is refused peeked or there are as many turns as there may be. The turns may take nothing.
+//!
+//! The values are collected in any `F: Append<P::Output>`, for which the constructors take an allocator first; the crate takes `F: Extend + Default`, and no allocator. The skipping forms drop the values.
+//!
+//! A collection that can't grow gives the committed fault `Memory`, and a stream that can't be put back the committed fault `Reset`, each at the position where the turn began. The faults of the parser are passed on.
+//!
+//! On need of more the state keeps what is collected, how many turns there were, whether one committed, which the crate forgets, and the turn that runs.
+//!
+//! What is added to an error is as for the parser; each counts as one parser.
+//!
+//! Which error a refusal has is exact: that of a turn that is refused committed, or one that says how many turns are missing, at the place where the last turn was begun or resumed. A turn's own error is one that the parser refuses with.
+ghost use Rattle.std.specs.Prelude.{◌≡◌, ◌≤◌, ◌&&◌, if◌then◌else◌};
+ghost use Rattle.combine_repeat.specs.Repeat.RepeatParsers.{count_min_max_of, skip_count_min_max_of, repeat_bounds, repeat_of, repeated_by};
+ghost use Rattle.combine_repeat.specs.Turns.Bounds.{fresh_turns_valid, gathered, is_unbounded, running_turn};
+ghost use Rattle.combine_repeat.specs.Repeat.Repeated.{repeated_is_meaning, repeated_means_one, repeated};
+
+pub mod laws;
+pub mod types;
+
+use crate::bounds::{MinToMax, TurnBounds};
+use crate::each::{Dropped, Each, SameParser};
+pub use crate::turns::TurnsState;
+use crate::turns::{Collect, Gather, TurnProgress, take_turns};
+use combine_base::error::{ErrorOffset, ParseResult, Tracked};
+use combine_base::parser::{Outputs, ParseMode, Parser};
+use combine_base::stream::{Kind, Positioned, Stream, StreamOnce};
+use std::alloc::Global;
+use types::{Count, CountMinMax, SkipCount, SkipCountMinMax};
+
+/// Turns of a parser, whose values `G` gathers. `B` bounds their number.
+///
+/// The types of the repetitions of one parser are its aliases.
+#[derive(Clone, Copy, Drop)]
+pub struct Repeat<G, P, B> {
+    gather: G,
+    turn: SameParser<P>,
+    bounds: B,
+}
+
+impl<G, P, B> Repeat<G, P, B> {
+    /// Returns the parser of these turns.
+    #[inline(always)]
+    pub fn new(gather: G, parser: P, bounds: B) -> Repeat<G, P, B>
+        ensures { result ≡ repeat_of gather parser bounds }
+    {
+        Repeat {
+            gather,
+            turn: SameParser(parser),
+            bounds,
+        }
+    }
+}
+
+/// Returns that no memory was found before anything was read, and leaves a default state.
+#[cold]
+fn without_room<O, Input: Stream, S: Default + Drop>(
+    input: &Input,
+    state: &mut S,
+) -> ParseResult<O, Input::Error>
+    ensures error { (e : Input.Error) × (result ≡ ParseResult.CommitErr e) × (Input.Error.observers.kind e ≡ Kind.Memory) }
+    ensures fresh { S.is_default state.new }
+{
+    *state = S::default();
+    ParseResult::CommitErr(input.new_error(Kind::Memory, input.position()))
+}
+
+impl<Input, P: Outputs<Input>, G: Gather<P::Output>, B> Outputs<Input> for Repeat<G, P, B> {
+    type Output = G::Collection;
+}
+
+impl<Input: Stream, P: Parser<Input>, G: Collect<P::Output>, B: TurnBounds> Parser<Input>
+    for Repeat<G, P, B> {
+    type PartialState = TurnsState<G::Collection, P::PartialState>;
+
+    ghost lawful = { λ p. P.lawful (repeated_by p) };
+
+    ghost determined = { λ p. P.determined (repeated_by p) };
+
+    ghost valid = { λ s. P.valid (running_turn s) };
+
+    ghost meaning = { λ p. repeated Input.step Input.Error.observers (B.bounds (repeat_bounds p)) (gathered G.held G.none G.more G.heapless) (P.meaning (repeated_by p)) };
+
+    ghost parts = { λ p. if is_unbounded (B.bounds (repeat_bounds p)) && G.keeps then P.parts (repeated_by p) else 1 };
+
+    ghost default_valid = { fresh_turns_valid P.PartialState.is_default P.valid P.default_valid };
+
+    ghost laws = { λ p l. repeated_is_meaning Input.step Input.Error.observers (B.bounds (repeat_bounds p)) (gathered G.held G.none G.more G.heapless) P.PartialState.is_default P.valid (P.meaning (repeated_by p)) (P.laws (repeated_by p) l) };
+
+    ghost single = { λ p l d. repeated_means_one Input.step Input.Error.observers (B.bounds (repeat_bounds p)) (gathered G.held G.none G.more G.heapless) P.valid (P.meaning (repeated_by p)) (P.single (repeated_by p) l d) };
+
+    #[inline(always)]
+    fn parse_mode<M: ParseMode>(
+        &mut self,
+        mode: M,
+        input: &mut Input,
+        state: &mut Self::PartialState,
+    ) -> ParseResult<G::Collection, Input::Error> {
+        let Ok(empty) = self.gather.empty(self.bounds.room(mode.is_first())) else {
+            return without_room(input, state);
+        };
+        take_turns::<G, Input, SameParser<P>, M, B>(
+            &mut self.turn,
+            self.bounds,
+            TurnProgress::none_yet(empty),
+            mode,
+            input,
+            state,
+        )
+    }
+
+    /// Adds what the parser of a turn adds.
+    #[inline]
+    fn add_error(&mut self, error: &mut Tracked<Input::Error>) {
+        self.turn.0.add_error(error);
+    }
+
+    /// Counts as the parser of a turn does; where the number of turns is bounded, or their values are dropped, it counts as one parser.
+    #[inline]
+    fn parser_count(&self) -> ErrorOffset {
+        if self.bounds.is_unbounded() && self.gather.keeps() {
+            return self.turn.0.parser_count();
+        }
+        ErrorOffset(1)
+    }
+}
+
+/// Runs at least `min` and at most `max` turns of `parser`, and collects their values in order.
+///
+/// `min` has to be at most `max`. A turn may take nothing. After `max` turns it is accepted, and no further turn runs. A peeked refusal ends the turns; after at least `min` it is put back, and the result is accepted. An acceptance is committed exactly if a turn was.
+///
+/// # Errors
+///
+/// - A peeked refusal after fewer than `min` turns refuses with the message `expected N more elements`, at the position where that turn began. It is committed exactly if a turn was. Its kind is that of the turn's refusal: `End` where the input ended, and else `Refused`.
+/// - A committed refusal of a turn is the result.
+/// - A collection that can't grow is the committed fault `Memory`, and a stream that can't be put back `Reset`.
+///
+/// # Partial input
+///
+/// On need of more the state keeps what is collected, how many turns there were, whether one committed, and the turn that runs.
+///
+/// # Differences from combine
+///
+/// - The caller shows that `min` is at most `max`, which the crate asserts.
+/// - The crate forgets over a cut that a turn committed, and a call that begins afresh may go on counting from an earlier one.
+/// - Where turns are missing the crate says so beside what the turn that stopped says.
+///
+/// # Examples
+///
+/// ```
+/// fn digits(alloc: Global, input: &[u8]) -> Result<(Vec<u8>, &[u8]), UnexpectedParse> {
+///     let digit = satisfy(|byte: u8| byte.is_ascii_digit());
+///     count_min_max::<Vec<u8>, _>(alloc, 2, 4, digit).parse(input)
+/// }
+/// ```
+///
+/// On `b"12345"` it returns `(b"1234", b"5")`; `b"1"` is refused committed.
+#[inline]
+pub fn count_min_max<F, P>(alloc: Global, min: usize, max: usize, parser: P) -> CountMinMax<F, P>
+    requires { min ≤ max }
+    ensures { result ≡ count_min_max_of alloc min max parser }
+{
+    let bounds = MinToMax { min, max };
+    Repeat::new(Each::new(alloc), parser, bounds)
+}
+
+/// Runs turns as `count_min_max` does, and drops the values.
+///
+/// `min` has to be at most `max`. It takes no memory of its own, but for that of an error's message.
+#[inline]
+pub fn skip_count_min_max<P>(min: usize, max: usize, parser: P) -> SkipCountMinMax<P>
+    requires { min ≤ max }
+    ensures { result ≡ skip_count_min_max_of min max parser }
+{
+    let bounds = MinToMax { min, max };
+    Repeat::new(Dropped, parser, bounds)
+}
+
+/// Runs at most `count` turns, and collects their values, as `count_min_max` with `min` 0 does.
+///
+/// # Examples
+///
+/// ```
+/// fn digits(alloc: Global, input: &[u8]) -> Result<(Vec<u8>, &[u8]), UnexpectedParse> {
+///     count::<Vec<u8>, _>(alloc, 2, satisfy(|byte: u8| byte.is_ascii_digit())).parse(input)
+/// }
+/// ```
+///
+/// On `b"123"` it returns `(b"12", b"3")`, and on `b"a"` `(b"", b"a")`.
+#[inline]
+pub fn count<F, P>(alloc: Global, count: usize, parser: P) -> Count<F, P>
+    ensures { result ≡ count_min_max_of alloc 0 count parser }
+{
+    count_min_max(alloc, 0, count, parser)
+}
+
+/// Runs turns as `count` does, and drops the values.
+///
+/// It takes no memory of its own, but for that of an error's message.
+#[inline]
+pub fn skip_count<P>(count: usize, parser: P) -> SkipCount<P>
+    ensures { result ≡ skip_count_min_max_of 0 count parser }
+{
+    skip_count_min_max(0, count, parser)
+}

@@ -1,2 +1,0 @@
-pub mod FoldRight
-pub mod EscapedBlocks

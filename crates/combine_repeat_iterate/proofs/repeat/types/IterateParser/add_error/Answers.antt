@@ -1,5 +1,0 @@
-use Rattle.combine_base.proofs.Parsers.SameMeanings.{same_none}
-use Rattle.combine_repeat_iterate.proofs.repeat.types.IterateParser.add_error.Goals as goal
-
-pub returns-clause-same : goal.returns-clause-same
-returns-clause-same g c = same_none _

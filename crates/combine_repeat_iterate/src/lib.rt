@@ -1,4 +1,0 @@
-//! Parsers as iterators.
-#![tactic(auto)]
-
-pub mod repeat;

@@ -1,4 +1,0 @@
-pub mod PartCalls
-pub mod Separators
-pub mod SeparatedCalls
-pub mod ElementThenTurns

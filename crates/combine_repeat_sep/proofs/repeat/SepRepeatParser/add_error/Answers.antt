@@ -1,7 +1,0 @@
-use Rattle.combine_base.proofs.Parsers.SameMeanings.{same_none}
-use Rattle.combine_repeat_sep.specs.SeparatedParsers.{sep_bounds, sep_separator}
-use Rattle.combine_repeat_sep.specs.Elements.{joined_means_same}
-use Rattle.combine_repeat_sep.proofs.repeat.SepRepeatParser.add_error.Goals as goal
-
-pub returns-clause-same : goal.returns-clause-same
-returns-clause-same g c = joined_means_same _ _ (g.B.ElementBounds.bounds (sep_bounds c.args.self.now)) _ _ _ _ _ c.add_error.ensures.same (same_none (g.S.Parser.meaning (sep_separator c.args.self.now)))

@@ -1,5 +1,0 @@
-use Rattle.combine_repeat_sep.proofs.ElementThenTurns.{sep_by1_is_one_then_turns}
-use Rattle.combine_repeat_sep.proofs.repeat.laws.sep_by1_is_one_then_turns.Goals as goal
-
-pub returns : goal.returns
-returns g c = sep_by1_is_one_then_turns _ g.Input.Error.ParseError.observers _ (g.P.Parser.meaning c.args.parser.now) (g.S.Parser.meaning c.args.separator.now)

@@ -1,9 +1,0 @@
-use Rattle.std.proofs.Common.{None}
-use Rattle.combine_base.proofs.Parsers.SameMeanings.{same_none}
-use Rattle.combine_repeat_sep.specs.SeparatedParsers.{chained_operator}
-use Rattle.combine_repeat_sep.specs.Elements.{joined_means_same}
-use Rattle.combine_repeat_turns.specs.declared.bounds.Bounds.TheVariants.{OwnFirst}
-use Rattle.combine_repeat_sep.proofs.repeat.types.Chainl1Parser.add_error.Goals as goal
-
-pub returns-clause-same : goal.returns-clause-same
-returns-clause-same g c = joined_means_same _ _ (OwnFirst 1 None) _ _ _ _ _ c.add_error.ensures.same (same_none (g.S.Parser.meaning (chained_operator c.args.self.now)))

@@ -1,8 +1,0 @@
-//! Repetitions with a separator or an operator between the turns.
-#![tactic(auto)]
-
-pub mod bounds;
-pub mod elements;
-pub mod pair;
-pub mod repeat;
-pub mod separated;

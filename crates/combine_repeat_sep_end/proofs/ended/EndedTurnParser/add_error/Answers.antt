@@ -1,9 +1,0 @@
-use Rattle.combine_token.specs.Choice.Optional.{optional_means_same}
-use Rattle.combine_repeat_sep_end.specs.Ended.{closer_of}
-use Rattle.combine_repeat_sep.specs.Pair.{pair_means_same}
-use Rattle.combine_base.proofs.Parsers.SameMeanings.{same_none}
-use Rattle.combine_repeat_sep.specs.Separated.{then_same}
-use Rattle.combine_repeat_sep_end.proofs.ended.EndedTurnParser.add_error.Goals as goal
-
-pub returns-clause-same : goal.returns-clause-same
-returns-clause-same g c = then_same _ _ _ _ _ _ c.add_error.ensures.same (pair_means_same _ _ (same_none (g.S.Parser.meaning (closer_of c.args.self.now))) (optional_means_same _ _ c.add_error.ensures.same))

@@ -1,5 +1,0 @@
-//! Repetitions whose last separator may stand alone.
-#![tactic(auto)]
-
-pub mod ended;
-pub mod repeat;

@@ -1,6 +1,0 @@
-use Rattle.combine_token.specs.Choice.Alternatives.{both_merged}
-use Rattle.combine_token.specs.Choice.Or.{is_associative}
-use Rattle.combine_token.proofs.choice.or_is_associative.Goals as goal
-
-pub returns : goal.returns
-returns g c = is_associative (both_merged g.Input.Error.ParseError.observers g.Input.Position.Ord.cmp) _ _ _
