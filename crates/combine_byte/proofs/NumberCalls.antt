@@ -58,7 +58,7 @@ module _ {P T R N S E : Type 0} (step : P → T → P) (s : Observers T R P E) (
     there (PeekOk a) marked place m b = absurd b.finds.is
     there (CommitErr e) marked place m b = by_case b.finds.is
       where
-        by_case : ((s.kind e ≡ kinds.End) × (kinds.End ≡ kinds.End → new.is_open ≡ true)) ⊎ ((s.kind e ≡ kinds.Memory) × (s.never_allocates → ⊥)) → Answers w (takes_number s width value) (run new after) (CommitErr e)
+        by_case : ((s.kind e ≡ kinds.End) × (kinds.End ≡ kinds.End → new.is_open ≡ true)) ⊎ ((s.kind e ≡ kinds.Memory) × (s.heapless → ⊥)) → Answers w (takes_number s width value) (run new after) (CommitErr e)
         by_case (inl p) =
             let n = b.at old m in
             open_end e p.0 (subst (λ (v : View P T). v.is_open ≡ true) n (p.1 refl)) n b.failures
@@ -109,7 +109,7 @@ module _ {P T R N S E : Type 0} (s : Observers T R P E) (width : ℕ) (value : L
   says_ended : (marked : View P T → Type 0) (mid new : View P T) (later after : Failures) (result : ParseResult N E) → marked old → EndsThere counts_failures step s marked old.position mid new later after result → Reasoned s.kind new.is_open (says new) result
   says_ended marked mid new later after (CommitOk a) m b = reasons_ok s.kind new.is_open (says new) a
   says_ended marked mid new later after (PeekOk a) m b = absurd b.finds.is
-  says_ended marked mid new later after (CommitErr e) m b = reasons_unended s.kind s.never_allocates new.is_open (says new) kinds.End e b.finds refl
+  says_ended marked mid new later after (CommitErr e) m b = reasons_unended s.kind s.heapless new.is_open (says new) kinds.End e b.finds refl
   says_ended marked mid new later after (PeekErr t) m b = reasons_peeked s.kind new.is_open (says new) t (refuses_so first state old new false t.error (record { is = b.says.is; back = b.at old m }))
 
   pub cut_reasons : (marked : View P T → Type 0) (place : P) (mid new : View P T) (later after : Failures) (result : ParseResult N E) → marked old → place ≡ old.position → EndsTooEarly counts_failures step s marked place mid new later after result → Reasoned s.kind new.is_open (says new) result

@@ -155,23 +155,23 @@ module _ {P T R Q E : Type 0} (w : World P T Distance E) (size : T → ℕ) (fil
 
       module _ (result : ParseResult R E) (c : k ≡ kinds.End → v.is_open ≡ true → ⊥) (m : v ≡ r.new) (n : h ≡ r.after) (f : w.fresh r.left) where
         -- nothing was read behind the distance
-        refused : RefusesPeeked w.kind w.never_allocates v.is_open result → searching size spells s d r.old (Refused false) → v ≡ mid → (w.counts_failures → h ≡ g) → Answers w (kept size (searching size spells s) adds says) r result
+        refused : RefusesPeeked w.kind w.heapless v.is_open result → searching size spells s d r.old (Refused false) → v ≡ mid → (w.counts_failures → h ≡ g) → Answers w (kept size (searching size spells s) adds says) r result
         refused t a b y =
-            distance_refuses w size (searching size spells s) adds says r d e result (subst (λ o. RefusesPeeked w.kind w.never_allocates o result) (ap (λ (x : View P T). x.is_open) b ∙ is_open) t) a (record { count = p.is.0; taken = subst (Takes w.step p.is.0 r.old) (sym b ∙ m) p.is.2.taken }) f (λ z. sym n ∙ y z ∙ p.is.2.failures z)
+            distance_refuses w size (searching size spells s) adds says r d e result (subst (λ o. RefusesPeeked w.kind w.heapless o result) (ap (λ (x : View P T). x.is_open) b ∙ is_open) t) a (record { count = p.is.0; taken = subst (Takes w.step p.is.0 r.old) (sym b ∙ m) p.is.2.taken }) f (λ z. sym n ∙ y z ∙ p.is.2.failures z)
 
         closed : v.is_open ≡ true ⊎ v.is_open ≡ false → (v.is_open ≡ true → ⊥) → v.is_open ≡ false
         closed o b = ⊎_elim (λ i. absurd (b i)) (λ i. i) o
 
-        failed : (result : ParseResult R E) → (r.before.reads < r.after.reads) × Leaves w r → at_end w.kind w.never_allocates v.is_open kinds.Read result → answers w (kept size (searching size spells s) adds says) r result
+        failed : (result : ParseResult R E) → (r.before.reads < r.after.reads) × Leaves w r → at_end w.kind w.heapless v.is_open kinds.Read result → answers w (kept size (searching size spells s) adds says) r result
         failed (CommitOk a) i h = absurd h
         failed (PeekOk a) i h = absurd h
         failed (CommitErr x) i h = ⊎_elim (λ p. rw p.0 i) (λ p. rw p.0 (λ g z. p.1 g, i.1)) h
         failed (PeekErr t) i h = absurd (let a = h.1 in cc)
 
-        pub found_none : NoRange w.kind w.never_allocates v.is_open k result → r.before.reads ≤ g.reads → Answers w (kept size (searching size spells s) adds says) r result
+        pub found_none : NoRange w.kind w.heapless v.is_open k result → r.before.reads ≤ g.reads → Answers w (kept size (searching size spells s) adds says) r result
         found_none t x = by_kind k refl u.is t.is
           where
-            by_kind : (j : Kind) → k ≡ j → no_range w.counts_failures w.step size spells mid v g h i j → answers_none w.kind w.never_allocates v.is_open j result → Answers w (kept size (searching size spells s) adds says) r result
+            by_kind : (j : Kind) → k ≡ j → no_range w.counts_failures w.step size spells mid v g h i j → answers_none w.kind w.heapless v.is_open j result → Answers w (kept size (searching size spells s) adds says) r result
             by_kind kinds.Refused j z t = refused t (Inner (torn z.0) refl) z.1.same z.1.failures
             by_kind kinds.End j z t =
                 let o : v.is_open ≡ false = closed (either v.is_open) (c j) in
@@ -226,10 +226,10 @@ module _ {P T R Q E : Type 0} (w : World P T Distance E) (size : T → ℕ) (fil
       unfailed : w.counts_failures → r.after ≡ r.before
       unfailed y = sym k ∙ p.is.2.failures y
 
-      pub missing_refuses : (result : ParseResult R E) → RefusesAbsent w.kind w.never_allocates empty result → Answers w (kept size (searching size spells s) adds says) r result
+      pub missing_refuses : (result : ParseResult R E) → RefusesAbsent w.kind w.heapless empty result → Answers w (kept size (searching size spells s) adds says) r result
       missing_refuses result t = record { is = by_result result t.is }
         where
-          by_result : (result : ParseResult R E) → refuses_absent w.kind w.never_allocates empty result → answers w (kept size (searching size spells s) adds says) r result
+          by_result : (result : ParseResult R E) → refuses_absent w.kind w.heapless empty result → answers w (kept size (searching size spells s) adds says) r result
           by_result (CommitOk a) t = absurd t
           by_result (PeekOk a) t = absurd t
           by_result (CommitErr x) t = ⊎_elim (λ p. rw p.0 (subst (asks_or_refuses w (kept size (searching size spells s) adds says) r) (sym (sym is_open ∙ o)) (record { meant = into w size (searching size spells s) adds says r d e r.old (Refused true) (absent true p.1); leaves = left; failures = unfailed }))) (λ p. rw p.0 (λ a b. p.1 a, left)) t

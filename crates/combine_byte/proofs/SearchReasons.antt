@@ -14,7 +14,7 @@ use Rattle.combine_byte.specs.Search.ItemLimit.{RefusesAbsent}
 
 module _ {V T R P E : Type 0} (observers : Observers T R P E) (says : Bool → E → Type 0) (place : P) (is_open empty : Bool) (h : (c : Bool) (e : E) → empty ≡ not c → HasItems observers kinds.End place (Only end_of_input) e → says c e) where
   -- no place was found
-  pub reasons_absent : (result : ParseResult V E) → RefusesAbsent observers.kind observers.never_allocates empty result → SaysAbsent observers place result → Reasoned observers.kind is_open says result
+  pub reasons_absent : (result : ParseResult V E) → RefusesAbsent observers.kind observers.heapless empty result → SaysAbsent observers place result → Reasoned observers.kind is_open says result
   reasons_absent (CommitOk v) a b = absurd a.is
   reasons_absent (PeekOk v) a b = absurd a.is
   reasons_absent (CommitErr e) a b = ⊎_elim (λ p. reasons_committed observers.kind is_open says e (λ r. h true e p.1 (b.is p.0))) (λ p. reasons_fault observers.kind is_open says e kinds.Memory p.0 tt) a.is

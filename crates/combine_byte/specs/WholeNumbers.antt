@@ -83,7 +83,7 @@ module _ {T R P V E : Type 0} (counts_failures : Type 0) (step : P → T → P) 
   pub record EndsThere (result : ParseResult V E) : Type 0 where
     pub at : (v : View P T) → marked v → new ≡ v
     pub failures : counts_failures → after ≡ before
-    pub finds : NoToken s.kind s.never_allocates new.is_open kinds.End result
+    pub finds : NoToken s.kind s.heapless new.is_open kinds.End result
     pub says : SaysEnd s place result
 
   -- it could not be put back

@@ -55,7 +55,7 @@ pub fn not_found<O, Input: Stream>(
     position: Input::Position,
 ) -> ParseResult<O, Input::Error>
     requires { (Input.view input.now).is_open ≡ false }
-    ensures refuses { RefusesAbsent Input.Error.observers.kind Input.Error.observers.never_allocates empty result }
+    ensures refuses { RefusesAbsent Input.Error.observers.kind Input.Error.observers.heapless empty result }
     ensures says { SaysAbsent Input.Error.observers position result }
 {
     match no_token(input, Kind::End, position) {

@@ -204,7 +204,7 @@ module _ {X P T R V S E : Type 0} (step : P → T → P) (errors : Observers T R
     alternative_settles z (PeekErr t) i k = absurd i
 
     -- want of memory for the merged error
-    unstored : Now → (t : Tracked E) (e : E) → CallsIt (PeekErr t) → (errors.kind e ≡ kinds.Memory) × (errors.never_allocates → ⊥) → Answers outer (choice_of errors cmp m xs) whole_run (CommitErr e)
+    unstored : Now → (t : Tracked E) (e : E) → CallsIt (PeekErr t) → (errors.kind e ≡ kinds.Memory) × (errors.heapless → ⊥) → Answers outer (choice_of errors cmp m xs) whole_run (CommitErr e)
     unstored z t e k h =
         let c = peeked_refusal inner (m x) (run_of k.left) (errors.kind t.error) k.answers.is in
         let l : Leaves outer whole_run = record { count = c.leaves.count; taken = subst (λ v. Takes step c.leaves.count v new) z.same c.leaves.taken; state = k.ends (λ a. a) } in

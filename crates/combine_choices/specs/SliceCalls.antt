@@ -33,7 +33,7 @@ module _ {V T R P E : Type 0} (s : Observers T R P E) (place : P) where
   abbrev pub no_alternative : ParseResult V E → Type 0
   no_alternative (CommitOk v) = ⊥
   no_alternative (PeekOk v) = ⊥
-  no_alternative (CommitErr e) = (s.kind e ≡ kinds.Memory) × (s.never_allocates → ⊥)
+  no_alternative (CommitErr e) = (s.kind e ≡ kinds.Memory) × (s.heapless → ⊥)
   no_alternative (PeekErr t) = (s.kind t.error ≡ kinds.Refused) × HasItems s kinds.Refused place (Only choice_is_empty) t.error
 
   -- refused peeked with its message, unless that found no memory

@@ -41,7 +41,7 @@ module _ {T R : Type 0} (token_eq : T → T → Bool) (range_eq : R → R → Bo
   item_same _ _ = false
 
   abbrev pub listed_errors : {P : Type 0} → Seen T R P (Errors T R P)
-  listed_errors = record { kind = λ e. e.kind; position = λ e. Some e.position; items = λ e. map said e.errors.items; keeps = true; same = item_same; never_allocates = ⊥ }
+  listed_errors = record { kind = λ e. e.kind; position = λ e. Some e.position; items = λ e. map said e.errors.items; keeps = true; same = item_same; heapless = ⊥ }
 
   same_sort : (i j : ErrorItem T R) → item_same i j ≡ true → is_expected i ≡ is_expected j
   same_sort (Unexpected a) (Unexpected b) e = refl

@@ -138,7 +138,7 @@ module _ {P T R A B S E : Type 0} (w : World P T S E) (valid : S → Type 0) (gi
     denied : denies a → Refuses w whole behind k
     denied d = record { meant = meant_denied r.first r.state a p.count k p.meant d; leaves = leaves; failures = λ s. f ∙ p.failures s }
 
-    starved : (w.never_allocates → GivesOnly valid m (spares starves) → ⊥) → fails w whole behind kinds.Memory
+    starved : (w.heapless → GivesOnly valid m (spares starves) → ⊥) → fails w whole behind kinds.Memory
     starved h = (λ x l. h x l.1, leaves)
 
 module _ {P T R A B S E : Type 0} (s : Observers T R P E) (step : P → T → P) (counts_failures : Type 0) (fresh valid : S → Type 0) (gives : P → A → B → Type 0) (denies starves : A → Type 0) (tells : P → A → E → Type 0) (m : Meaning P T R E A S) (r : CallRecord P T S) (new : View P T) (later : Failures) (e : new ≡ r.new) (f : later ≡ r.after) (a : A) (says : E → Type 0) where
@@ -154,7 +154,7 @@ module _ {P T R A B S E : Type 0} (s : Observers T R P E) (step : P → T → P)
   pub commit_denial : valid r.state → (x : E) → Answers w m r (CommitOk a) → Changes s (gives r.new.position a) (denies a) (starves a) says (Err x) → Answers w (whole w valid gives denies starves tells m r) (record { first = r.first; state = r.state; left = r.left; old = r.old; new = new; before = r.before; after = later }) (CommitErr x)
   commit_denial i x h c = by_case c.is
     where
-      by_case : ((s.kind x ≡ kinds.Refused) × denies a × says x) ⊎ ((s.kind x ≡ kinds.Memory) × (s.never_allocates → starves a)) → Answers w (whole w valid gives denies starves tells m r) (record { first = r.first; state = r.state; left = r.left; old = r.old; new = new; before = r.before; after = later }) (CommitErr x)
+      by_case : ((s.kind x ≡ kinds.Refused) × denies a × says x) ⊎ ((s.kind x ≡ kinds.Memory) × (s.heapless → starves a)) → Answers w (whole w valid gives denies starves tells m r) (record { first = r.first; state = r.state; left = r.left; old = r.old; new = new; before = r.before; after = later }) (CommitErr x)
       by_case (inl p) = record { is = rw p.0 (denied w valid gives denies starves tells m r new later e f a true h.is p.1) }
       by_case (inr p) = record { is = rw p.0 (starved w valid gives denies starves tells m r new later e f a true h.is (λ y l. good_ok valid m (spares starves) w r a l i h (p.1 y))) }
 
@@ -163,12 +163,12 @@ module _ {P T R A B S E : Type 0} (s : Observers T R P E) (step : P → T → P)
   peek_denial i x (PeekOk b) h c q = absurd q.is
   peek_denial i x (CommitErr y) h c q = by_case c.is
     where
-      by_case : ((s.kind x ≡ kinds.Refused) × denies a × says x) ⊎ ((s.kind x ≡ kinds.Memory) × (s.never_allocates → starves a)) → Answers w (whole w valid gives denies starves tells m r) (record { first = r.first; state = r.state; left = r.left; old = r.old; new = new; before = r.before; after = later }) (CommitErr y)
+      by_case : ((s.kind x ≡ kinds.Refused) × denies a × says x) ⊎ ((s.kind x ≡ kinds.Memory) × (s.heapless → starves a)) → Answers w (whole w valid gives denies starves tells m r) (record { first = r.first; state = r.state; left = r.left; old = r.old; new = new; before = r.before; after = later }) (CommitErr y)
       by_case (inl p) = let k = p.0 in let j = q.is.1 in absurd (cc)
       by_case (inr p) = record { is = rw (q.is.0, p.0) (starved w valid gives denies starves tells m r new later e f a false h.is (λ y l. good_peek_ok valid m (spares starves) w r a l i h (p.1 y))) }
   peek_denial i x (PeekErr t) h c q = by_case c.is
     where
-      by_case : ((s.kind x ≡ kinds.Refused) × denies a × says x) ⊎ ((s.kind x ≡ kinds.Memory) × (s.never_allocates → starves a)) → Answers w (whole w valid gives denies starves tells m r) (record { first = r.first; state = r.state; left = r.left; old = r.old; new = new; before = r.before; after = later }) (PeekErr t)
+      by_case : ((s.kind x ≡ kinds.Refused) × denies a × says x) ⊎ ((s.kind x ≡ kinds.Memory) × (s.heapless → starves a)) → Answers w (whole w valid gives denies starves tells m r) (record { first = r.first; state = r.state; left = r.left; old = r.old; new = new; before = r.before; after = later }) (PeekErr t)
       by_case (inl p) = record { is = rw (q.is.0, p.0) (denied w valid gives denies starves tells m r new later e f a false h.is p.1) }
       by_case (inr p) = absurd (q.is.1 p.0)
 
@@ -211,7 +211,7 @@ module _ {P T R A B S E : Type 0} (s : Observers T R P E) (step : P → T → P)
     value_refused : (k : Bool) → Accepts (world step s counts_failures fresh) m run a k → (s.kind x ≡ kinds.Memory → ⊥) → begun_refuses all first z old new k x
     value_refused k p n = by_case c.is
       where
-        by_case : ((s.kind x ≡ kinds.Refused) × refused × tells old.position a x) ⊎ ((s.kind x ≡ kinds.Memory) × (s.never_allocates → starved)) → begun_refuses all first z old new k x
+        by_case : ((s.kind x ≡ kinds.Refused) × refused × tells old.position a x) ⊎ ((s.kind x ≡ kinds.Memory) × (s.heapless → starved)) → begun_refuses all first z old new k x
         by_case (inl i) = value_reasons first new k x (record { value = a; count = p.count; accepted = p.meant; taken = subst (Takes step p.count old) (sym e) p.taken; said = i.2 })
         by_case (inr i) = absurd (n i.0)
 

@@ -96,7 +96,7 @@ module _ {P T R E : Type 0} (step : P → T → P) (s : Observers T R P E) (coun
     }
 
     -- refused where it stands, saying why
-    pub refused_once : {V : Type 0} (read : Reading P T V) (input : I) (e : E) → read (view input) (Refused true) → IsRefusalOrMemory s.kind s.never_allocates e → Runs read input input (CommitErr e)
+    pub refused_once : {V : Type 0} (read : Reading P T V) (input : I) (e : E) → read (view input) (Refused true) → IsRefusalOrMemory s.kind s.heapless e → Runs read input input (CommitErr e)
     refused_once {V} read input e x t = record {
       passes = passes_none (marks input) (failures input);
       answers = record { state = false; left = false; answers = record { is = by_kind t.is } };
@@ -105,7 +105,7 @@ module _ {P T R E : Type 0} (step : P → T → P) (s : Observers T R P E) (coun
         run : CallRecord P T Bool
         run = afresh w1 (once {R = R} {E = E} read) false false (view input) (view input) (failures input) (failures input)
 
-        by_kind : (s.kind e ≡ kinds.Refused) ⊎ ((s.kind e ≡ kinds.Memory) × (s.never_allocates → ⊥)) → fails w1 (once {R = R} {E = E} read) run (s.kind e)
+        by_kind : (s.kind e ≡ kinds.Refused) ⊎ ((s.kind e ≡ kinds.Memory) × (s.heapless → ⊥)) → fails w1 (once {R = R} {E = E} read) run (s.kind e)
         by_kind (inl i) = rw i (record { meant = x; leaves = record { count = 0; taken = takes_none step (view input); state = refl }; failures = λ s. refl })
         by_kind (inr i) = rw i.0 (λ f l. i.1 f, record { count = 0; taken = takes_none step (view input); state = refl })
 

@@ -75,7 +75,7 @@ module _ {I P T R V E S : Type 0} (step : P → T → P) (errors : Observers T R
     run_is_single = record { one = λ v o u p q. one.one v o u (meant v o p) (meant v u q) }
 
   module _ (given : I → ParseResult V E → I → Type 0) (runs : (input left : I) (y : ParseResult V E) → given input y left → RunsIt input y left) where
-    run_needs_no_memory : errors.never_allocates → m.heapless → NeedsNoMemory step errors.kind view given
+    run_needs_no_memory : errors.heapless → m.heapless → NeedsNoMemory step errors.kind view given
     run_needs_no_memory f l = λ input left e p i.
         let s = runs input left (CommitErr e) p in
         let run = afresh here m s.state s.left (view input) (view left) (failures input) (failures left) in
@@ -89,7 +89,7 @@ module _ {I P T R V E S : Type 0} (step : P → T → P) (errors : Observers T R
       pub plain_is_single : IsReading m.whole → IsSingle m.whole → IsSingle (FunctionReading step errors.kind view (AnswersAt returns into))
       plain_is_single h one = run_is_single h one (AnswersAt returns into) plain_runs
 
-      pub plain_needs_no_memory : errors.never_allocates → m.heapless → NeedsNoMemory step errors.kind view (AnswersAt returns into)
+      pub plain_needs_no_memory : errors.heapless → m.heapless → NeedsNoMemory step errors.kind view (AnswersAt returns into)
       plain_needs_no_memory = run_needs_no_memory (AnswersAt returns into) plain_runs
 
     module _ {Env : Type 0} (clone : Env → Type 0) (returns : Env → I → X → I → Type 0) (k : (e : Env) (input left : I) (own : X) → clone e → returns e input own left → RunsIt input (into own) left) where
@@ -99,7 +99,7 @@ module _ {I P T R V E S : Type 0} (step : P → T → P) (errors : Observers T R
       pub env_is_single : IsReading m.whole → IsSingle m.whole → IsSingle (FunctionReading step errors.kind view (AnswersWith clone returns into))
       env_is_single h one = run_is_single h one (AnswersWith clone returns into) env_runs
 
-      pub env_needs_no_memory : errors.never_allocates → m.heapless → NeedsNoMemory step errors.kind view (AnswersWith clone returns into)
+      pub env_needs_no_memory : errors.heapless → m.heapless → NeedsNoMemory step errors.kind view (AnswersWith clone returns into)
       env_needs_no_memory = run_needs_no_memory (AnswersWith clone returns into) env_runs
 
     -- a function that is called at references: what holds of what it is shown and leaves there holds of the values

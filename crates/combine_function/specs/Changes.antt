@@ -18,7 +18,7 @@ use Rattle.combine_base.specs.declared.stream.Kind.TheVariants as kinds
 module _ {T R P E B : Type 0} (s : Observers T R P E) (gives : B → Type 0) (denies starves : Type 0) (says : E → Type 0) where
   abbrev pub changes : Result B E → Type 0
   changes (Ok b) = gives b
-  changes (Err e) = ((s.kind e ≡ kinds.Refused) × denies × says e) ⊎ ((s.kind e ≡ kinds.Memory) × (s.never_allocates → starves))
+  changes (Err e) = ((s.kind e ≡ kinds.Refused) × denies × says e) ⊎ ((s.kind e ≡ kinds.Memory) × (s.heapless → starves))
 
   pub record Changes (result : Result B E) : Type 0 where
     pub is : changes result

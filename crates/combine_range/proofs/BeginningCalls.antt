@@ -74,8 +74,8 @@ module _ {P T R E : Type 0} (w : World P T Distance E) (size : T → ℕ) (fille
     pub beginning_peeks : (q : R) → spells q (take z.count r.old.unread) → z.count ≡ 0 → some ≡ false → Takes w.step z.count r.old r.new → w.fresh r.left → (w.counts_failures → r.after ≡ r.before) → Answers w (kept size (beginning size spells f some) adds says) r (PeekOk q)
     beginning_peeks q p l b t y s = record { is = distance_accepts w size (beginning size spells f some) adds says r d e q z.count false (record { reaches = z.reaches; ends = stops; spelled = p; kind = sym (ap (nat_lt 0) l); enough = λ a. absurd (cc) }) t y s }
 
-    pub beginning_refuses : (result : ParseResult R E) → RefusesPeeked w.kind w.never_allocates v.is_open result → z.count ≡ 0 → some ≡ true → Takes w.step z.count r.old r.new → w.fresh r.left → (w.counts_failures → r.after ≡ r.before) → Answers w (kept size (beginning size spells f some) adds says) r result
-    beginning_refuses result i l b t y s = distance_refuses w size (beginning size spells f some) adds says r d e result (subst (λ o. RefusesPeeked w.kind w.never_allocates o result) (takes_open w.step z.count r.old v z.taken) i) (Empty (subst (ReachesLongest size f d r.old.unread) l z.reaches) (λ o. let a = stops o in omega arith) b, refl) (record { count = z.count; taken = t }) y s
+    pub beginning_refuses : (result : ParseResult R E) → RefusesPeeked w.kind w.heapless v.is_open result → z.count ≡ 0 → some ≡ true → Takes w.step z.count r.old r.new → w.fresh r.left → (w.counts_failures → r.after ≡ r.before) → Answers w (kept size (beginning size spells f some) adds says) r result
+    beginning_refuses result i l b t y s = distance_refuses w size (beginning size spells f some) adds says r d e result (subst (λ o. RefusesPeeked w.kind w.heapless o result) (takes_open w.step z.count r.old v z.taken) i) (Empty (subst (ReachesLongest size f d r.old.unread) l z.reaches) (λ o. let a = stops o in omega arith) b, refl) (record { count = z.count; taken = t }) y s
 
 -- the range that was handed out has items where tokens were taken
 module _ {P T R : Type 0} {counts_failures : Type 0} {step : P → T → P} {size : T → ℕ} {spells : R → List T → Type 0} {f : T → Bool → Type 0} {d : ℕ} {old v : View P T} {before g : Failures} (z : Walked counts_failures step size f d old v before g) (q : R) (p : spells q (take z.count old.unread)) {count : R → ℕ} (measured : (q : R) (ts : List T) → spells q ts → count q ≡ size_of size ts) where

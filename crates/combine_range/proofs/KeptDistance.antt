@@ -34,7 +34,7 @@ module _ {P T R A E : Type 0} (w : World P T Distance E) (size : T → ℕ) (rea
   pub distance_accepts : (a : A) (n : ℕ) (c : Bool) → read d r.old (Accepted a n c) → Takes w.step n r.old r.new → w.fresh r.left → (w.counts_failures → r.after ≡ r.before) → Accepts w whole r a c
   distance_accepts a n c p t l f = record { count = n; meant = into r.old (Accepted a n c) p; taken = t; state = l; failures = f }
 
-  pub distance_refuses : (result : ParseResult A E) → RefusesPeeked w.kind w.never_allocates r.old.is_open result → read d r.old (Refused false) → Moves w.step r.old r.new → w.fresh r.left → (w.counts_failures → r.after ≡ r.before) → Answers w whole r result
+  pub distance_refuses : (result : ParseResult A E) → RefusesPeeked w.kind w.heapless r.old.is_open result → read d r.old (Refused false) → Moves w.step r.old r.new → w.fresh r.left → (w.counts_failures → r.after ≡ r.before) → Answers w whole r result
   distance_refuses result n p m l f = refused_peeked w whole r result n (into r.old (Refused false) p) (record { count = m.count; taken = m.taken; state = l }) f
 
   -- need of more: all is put back, and the distance is kept

@@ -26,7 +26,7 @@ module _ {P T R A S E : Type 0} (w : World P T S E) (read : Reading P T A) (heap
   pub takes_some : (a : A) (n : ℕ) (c : Bool) → read r.old (Accepted a n c) → Takes w.step n r.old r.new → w.fresh r.left → (w.counts_failures → r.after ≡ r.before) → Accepts w (stateless read ⊥ heapless adds says) r a c
   takes_some a n c p t l f = record { count = n; meant = into_begun read ⊥ heapless adds says r.first r.state r.old (Accepted a n c) p; taken = t; state = l; failures = f }
 
-  pub takes_nothing : (result : ParseResult A E) → RefusesPeeked w.kind w.never_allocates r.old.is_open result → read r.old (Refused false) → Leaves w r → (w.counts_failures → r.after ≡ r.before) → Answers w (stateless read ⊥ heapless adds says) r result
+  pub takes_nothing : (result : ParseResult A E) → RefusesPeeked w.kind w.heapless r.old.is_open result → read r.old (Refused false) → Leaves w r → (w.counts_failures → r.after ≡ r.before) → Answers w (stateless read ⊥ heapless adds says) r result
   takes_nothing result n p l f = refused_peeked w (stateless read ⊥ heapless adds says) r result n (into_begun read ⊥ heapless adds says r.first r.state r.old (Refused false) p) l f
 
   -- the first n items were no range
@@ -34,29 +34,29 @@ module _ {P T R A S E : Type 0} (w : World P T S E) (read : Reading P T A) (heap
     left : r.new ≡ r.old → Leaves w r
     left q = record { count = 0; taken = rw q (takes_none w.step r.old); state = l }
 
-    at_end_of : (result : ParseResult A E) → size_of size r.old.unread < n → r.new ≡ r.old → (w.counts_failures → r.after ≡ r.before) → (b : Bool) → r.old.is_open ≡ b → NoToken w.kind w.never_allocates b kinds.End result → Answers w (stateless read ⊥ heapless adds says) r result
+    at_end_of : (result : ParseResult A E) → size_of size r.old.unread < n → r.new ≡ r.old → (w.counts_failures → r.after ≡ r.before) → (b : Bool) → r.old.is_open ≡ b → NoToken w.kind w.heapless b kinds.End result → Answers w (stateless read ⊥ heapless adds says) r result
     at_end_of result s q f false o t = takes_nothing result (rw o (ended_peeked false result t refl)) (short s o) (left q) f
     at_end_of result s q f true o t = record { is = by_result result t.is }
       where
         asking : Asks w (stateless read ⊥ heapless adds says) r
         asking = stateless_asks w read ⊥ heapless adds says r o (waits s o) (λ k. absurd k) q f
 
-        by_result : (result : ParseResult A E) → at_end w.kind w.never_allocates true kinds.End result → answers w (stateless read ⊥ heapless adds says) r result
+        by_result : (result : ParseResult A E) → at_end w.kind w.heapless true kinds.End result → answers w (stateless read ⊥ heapless adds says) r result
         by_result (CommitOk v) h = absurd h
         by_result (PeekOk v) h = absurd h
         by_result (CommitErr x) h = ⊎_elim (λ p. rw p.0 (subst (asks_or_refuses w (stateless read ⊥ heapless adds says) r) (sym o) asking)) (λ p. rw p.0 (λ g z. p.1 g, left q)) h
         by_result (PeekErr t) h = absurd (let a = h.2 in cc)
 
-    pub takes_no_range : (k : Kind) (result : ParseResult A E) → UnconsRange w.counts_failures w.step size spells r.old r.new r.before r.after n (Err k) → NoRange w.kind w.never_allocates r.new.is_open k result → Answers w (stateless read ⊥ heapless adds says) r result
+    pub takes_no_range : (k : Kind) (result : ParseResult A E) → UnconsRange w.counts_failures w.step size spells r.old r.new r.before r.after n (Err k) → NoRange w.kind w.heapless r.new.is_open k result → Answers w (stateless read ⊥ heapless adds says) r result
     takes_no_range k result u t = by_kind k u.is t.is
       where
-        failed : (result : ParseResult A E) → (r.before.reads < r.after.reads) × Leaves w r → at_end w.kind w.never_allocates r.new.is_open kinds.Read result → answers w (stateless read ⊥ heapless adds says) r result
+        failed : (result : ParseResult A E) → (r.before.reads < r.after.reads) × Leaves w r → at_end w.kind w.heapless r.new.is_open kinds.Read result → answers w (stateless read ⊥ heapless adds says) r result
         failed (CommitOk v) i h = absurd h
         failed (PeekOk v) i h = absurd h
         failed (CommitErr x) i h = ⊎_elim (λ p. rw p.0 i) (λ p. rw p.0 (λ g z. p.1 g, i.1)) h
         failed (PeekErr t) i h = absurd (let a = h.1 in cc)
 
-        by_kind : (k : Kind) → no_range w.counts_failures w.step size spells r.old r.new r.before r.after n k → answers_none w.kind w.never_allocates r.new.is_open k result → Answers w (stateless read ⊥ heapless adds says) r result
+        by_kind : (k : Kind) → no_range w.counts_failures w.step size spells r.old r.new r.before r.after n k → answers_none w.kind w.heapless r.new.is_open k result → Answers w (stateless read ⊥ heapless adds says) r result
         by_kind kinds.Refused h t = takes_nothing result (rw (← h.1.same) t) (split h.0) (left h.1.same) h.1.failures
         by_kind kinds.End h t = at_end_of result h.0 h.1.same h.1.failures r.old.is_open refl (rw (← h.1.same) t)
         by_kind kinds.Read h t = record { is = failed result (h.rose, record { count = h.count; taken = h.taken; state = l }) t.is }
@@ -72,7 +72,7 @@ module _ {P T R Q S E : Type 0} (w : World P T S E) (size : T → ℕ) (filled :
     pub take_peeks : (q : Q) → UnconsRange w.counts_failures w.step size spells r.old r.new r.before r.after n (Ok q) → n ≡ 0 → Answers w (stateless (taking size spells n) ⊥ heapless adds says) r (PeekOk q)
     take_peeks q u h = record { is = takes_some w (taking size spells n) heapless adds says r q u.is.0 false (record { place = u.is.1; spelled = u.is.2.spelled }, sym (ap (nat_lt 0) h)) u.is.2.taken l u.is.2.failures }
 
-    pub take_none : (k : Kind) (result : ParseResult Q E) → UnconsRange w.counts_failures w.step size spells r.old r.new r.before r.after n (Err k) → NoRange w.kind w.never_allocates r.new.is_open k result → Answers w (stateless (taking size spells n) ⊥ heapless adds says) r result
+    pub take_none : (k : Kind) (result : ParseResult Q E) → UnconsRange w.counts_failures w.step size spells r.old r.new r.before r.after n (Err k) → NoRange w.kind w.heapless r.new.is_open k result → Answers w (stateless (taking size spells n) ⊥ heapless adds says) r result
     take_none k result = takes_no_range w (taking size spells n) heapless adds says r size spells n l (λ i. (Split i, refl)) (λ i o. (Short i o, refl)) (λ i o. record { short = i; is_open = o }) k result
 
   module _ (wanted : Wanted Q) (n : ℕ) (e : n ≡ wanted.items) (l : w.fresh r.left) where
@@ -85,5 +85,5 @@ module _ {P T R Q S E : Type 0} (w : World P T S E) (size : T → ℕ) (filled :
     pub match_stuck : (q : Q) (mid : View P T) (f : Failures) (x : E) (k : Kind) → UnconsRange w.counts_failures w.step size spells r.old mid r.before f n (Ok q) → r.before.resets ≤ f.resets → w.kind x ≡ k → (k ≡ kinds.Reset) × Moves w.step mid r.new × (f.resets < r.after.resets) → Answers w (stateless (matching_range size spells wanted) ⊥ heapless adds says) r (CommitErr x)
     match_stuck q mid f x k u h i j = let m = moves_more w.step u.is.0 r.old mid r.new u.is.2.taken j.1 in record { is = rw (i, j.0) (let a = j.2 in omega arith, record { count = m.count; taken = m.taken; state = l }) }
 
-    pub match_none : (k : Kind) (result : ParseResult Q E) → UnconsRange w.counts_failures w.step size spells r.old r.new r.before r.after n (Err k) → NoRange w.kind w.never_allocates r.new.is_open k result → Answers w (stateless (matching_range size spells wanted) ⊥ heapless adds says) r result
+    pub match_none : (k : Kind) (result : ParseResult Q E) → UnconsRange w.counts_failures w.step size spells r.old r.new r.before r.after n (Err k) → NoRange w.kind w.heapless r.new.is_open k result → Answers w (stateless (matching_range size spells wanted) ⊥ heapless adds says) r result
     match_none k result = takes_no_range w (matching_range size spells wanted) heapless adds says r size spells n l (λ i. (No (Split (rw e at i)), refl)) (λ i o. (No (Short (rw e at i) o), refl)) (λ i o. record { short = rw e at i; is_open = o }) k result

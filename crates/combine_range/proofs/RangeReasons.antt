@@ -67,28 +67,28 @@ module _ {V T R P E : Type 0} (s : Observers T R P E) (says : Bool → E → Typ
   module _ {Q : Type 0} (counts_failures : Type 0) (step : P → T → P) (size : T → ℕ) (spells : Q → List T → Type 0) (old new : View P T) (before after : Failures) (n : ℕ) where
     -- no range of so many items could be taken
     module _ (h : new ≡ old → (u : UnfitLength size spells n old) (e : E) → length_says s size spells place n old u e → says false e) where
-      ended : (result : ParseResult V E) → size_of size old.unread < n → TakesNoItem counts_failures step size spells old new before after → NoToken s.kind s.never_allocates new.is_open kinds.End result → peeks_saying (says_why s place kinds.End) result → Reasoned s.kind new.is_open says result
+      ended : (result : ParseResult V E) → size_of size old.unread < n → TakesNoItem counts_failures step size spells old new before after → NoToken s.kind s.heapless new.is_open kinds.End result → peeks_saying (says_why s place kinds.End) result → Reasoned s.kind new.is_open says result
       ended (CommitOk v) l y a b = absurd a.is
       ended (PeekOk v) l y a b = absurd a.is
-      ended (CommitErr e) l y a b = reasons_unended s.kind s.never_allocates new.is_open says kinds.End e a refl
+      ended (CommitErr e) l y a b = reasons_unended s.kind s.heapless new.is_open says kinds.End e a refl
       ended (PeekErr t) l y a b = reasons_peeked s.kind new.is_open says t (h y.same (Short l (sym (ap (λ (v : View P T). v.is_open) y.same) ∙ a.is.2)) t.error b)
 
-      split : (result : ParseResult V E) → new ≡ old → EndsInsideToken size old.unread n → RefusesPeeked s.kind s.never_allocates new.is_open result → peeks_saying (says_why s place kinds.Refused) result → Reasoned s.kind new.is_open says result
+      split : (result : ParseResult V E) → new ≡ old → EndsInsideToken size old.unread n → RefusesPeeked s.kind s.heapless new.is_open result → peeks_saying (says_why s place kinds.Refused) result → Reasoned s.kind new.is_open says result
       split (CommitOk v) q i a b = absurd a.is
       split (PeekOk v) q i a b = absurd a.is
       split (CommitErr e) q i a b = reasons_fault s.kind new.is_open says e kinds.Memory a.is.0 tt
       split (PeekErr t) q i a b = reasons_peeked s.kind new.is_open says t (h q (Split i) t.error b)
 
-      unread : (result : ParseResult V E) → NoToken s.kind s.never_allocates new.is_open kinds.Read result → Reasoned s.kind new.is_open says result
+      unread : (result : ParseResult V E) → NoToken s.kind s.heapless new.is_open kinds.Read result → Reasoned s.kind new.is_open says result
       unread (CommitOk v) a = absurd a.is
       unread (PeekOk v) a = absurd a.is
       unread (CommitErr e) a = ⊎_elim (λ p. reasons_fault s.kind new.is_open says e kinds.Read p.0 tt) (λ p. reasons_fault s.kind new.is_open says e kinds.Memory p.0 tt) a.is
       unread (PeekErr t) a = absurd (let i = a.is.1 in cc)
 
-      pub reasons_none : (why : Kind) (result : ParseResult V E) → UnconsRange counts_failures step size spells old new before after n (Err why) → NoRange s.kind s.never_allocates new.is_open why result → PeeksSaying (says_why s place why) result → Reasoned s.kind new.is_open says result
+      pub reasons_none : (why : Kind) (result : ParseResult V E) → UnconsRange counts_failures step size spells old new before after n (Err why) → NoRange s.kind s.heapless new.is_open why result → PeeksSaying (says_why s place why) result → Reasoned s.kind new.is_open says result
       reasons_none why result u a b = by_kind why u.is a.is b.is
         where
-          by_kind : (k : Kind) → no_range counts_failures step size spells old new before after n k → answers_none s.kind s.never_allocates new.is_open k result → peeks_saying (says_why s place k) result → Reasoned s.kind new.is_open says result
+          by_kind : (k : Kind) → no_range counts_failures step size spells old new before after n k → answers_none s.kind s.heapless new.is_open k result → peeks_saying (says_why s place k) result → Reasoned s.kind new.is_open says result
           by_kind kinds.Refused u a b = split result u.1.same u.0 a b
           by_kind kinds.End u a b = ended result u.0 u.1 a b
           by_kind kinds.Read u a b = unread result a
@@ -119,17 +119,17 @@ module _ {V T R P E : Type 0} (s : Observers T R P E) (says : Bool → E → Typ
 
   module _ (is_open : Bool) where
     -- nothing passed
-    pub reasons_empty : (us : List T) (result : ParseResult V E) → RefusesPeeked s.kind s.never_allocates is_open result → PeeksSaying (refuses_one s place us) result → ((e : E) → refuses_one s place us e → says false e) → Reasoned s.kind is_open says result
+    pub reasons_empty : (us : List T) (result : ParseResult V E) → RefusesPeeked s.kind s.heapless is_open result → PeeksSaying (refuses_one s place us) result → ((e : E) → refuses_one s place us e → says false e) → Reasoned s.kind is_open says result
     reasons_empty us (CommitOk v) a b h = absurd a.is
     reasons_empty us (PeekOk v) a b h = absurd a.is
     reasons_empty us (CommitErr e) a b h = reasons_fault s.kind is_open says e kinds.Memory a.is.0 tt
     reasons_empty us (PeekErr t) a b h = reasons_peeked s.kind is_open says t (h t.error b.is)
 
     -- the end was found
-    pub reasons_ended : (result : ParseResult V E) → NoToken s.kind s.never_allocates is_open kinds.End result → SaysEnd s place result → ((e : E) → HasItems s kinds.End place (Only end_of_input) e → says false e) → Reasoned s.kind is_open says result
+    pub reasons_ended : (result : ParseResult V E) → NoToken s.kind s.heapless is_open kinds.End result → SaysEnd s place result → ((e : E) → HasItems s kinds.End place (Only end_of_input) e → says false e) → Reasoned s.kind is_open says result
     reasons_ended (CommitOk v) a b h = absurd a.is
     reasons_ended (PeekOk v) a b h = absurd a.is
-    reasons_ended (CommitErr e) a b h = reasons_unended s.kind s.never_allocates is_open says kinds.End e a refl
+    reasons_ended (CommitErr e) a b h = reasons_unended s.kind s.heapless is_open says kinds.End e a refl
     reasons_ended (PeekErr t) a b h = reasons_peeked s.kind is_open says t (h t.error b.is)
 
 module _ {T R P Q E : Type 0} (s : Observers T R P E) (counts_failures : Type 0) (step : P → T → P) (size : T → ℕ) (spells : Q → List T → Type 0) (old new : View P T) (w : Wanted Q) (n : ℕ) (i : n ≡ w.items) where
@@ -143,7 +143,7 @@ module _ {T R P Q E : Type 0} (s : Observers T R P E) (counts_failures : Type 0)
       reasons_peeked s.kind is_open differing t (record { peeked = refl; back = back; differs = Other q l.is.0 (record { place = l.is.1; spelled = l.is.2.spelled }) (sym e ∙ j); says = k })
 
   -- none of its length does
-  pub reasons_unmatched : {V : Type 0} (before after : Failures) (why : Kind) (result : ParseResult V E) → UnconsRange counts_failures step size spells old new before after n (Err why) → NoRange s.kind s.never_allocates new.is_open why result → PeeksSaying (says_why s old.position why) result → Reasoned s.kind new.is_open differing result
+  pub reasons_unmatched : {V : Type 0} (before after : Failures) (why : Kind) (result : ParseResult V E) → UnconsRange counts_failures step size spells old new before after n (Err why) → NoRange s.kind s.heapless new.is_open why result → PeeksSaying (says_why s old.position why) result → Reasoned s.kind new.is_open differing result
   reasons_unmatched before after why result u =
       reasons_none s differing old.position counts_failures step size spells old new before after w.items (λ q u e h. record { peeked = refl; back = q; differs = No u; says = h }) why result (subst (λ m. UnconsRange counts_failures step size spells old new before after m (Err why)) i u)
 

@@ -76,7 +76,7 @@ module _ {P T R E : Type 0} (w : World P T Distance E) (size : T → ℕ) (fille
         let still : r.old.is_open ≡ true = sym (takes_open w.step z.to r.old v z.taken) ∙ o in
         distance_asks_from w size (until_range size spells t) adds says r d e z.to state v g result j z.taken l x y z.failures still (m, still) (λ i k. until_resumes size spells t filled d i r.old (fails_between w.counts_failures w.step size spells t d r.old v r.before g z filled i k))
 
-    pub until_range_ends : (result : ParseResult R E) → NoToken w.kind w.never_allocates v.is_open kinds.End result → v.is_open ≡ false → r.new ≡ v → w.fresh r.left → (w.counts_failures → r.after ≡ g) → Answers w (kept size (until_range size spells t) adds says) r result
+    pub until_range_ends : (result : ParseResult R E) → NoToken w.kind w.heapless v.is_open kinds.End result → v.is_open ≡ false → r.new ≡ v → w.fresh r.left → (w.counts_failures → r.after ≡ g) → Answers w (kept size (until_range size spells t) adds says) r result
     until_range_ends result n c b l s =
         let i = takes_open w.step z.to r.old v z.taken in
-        distance_refuses w size (until_range size spells t) adds says r d e result (subst (λ o. RefusesPeeked w.kind w.never_allocates o result) i (ended_peeked v.is_open result n c)) (Absent m (sym i ∙ c), refl) (record { count = z.to; taken = rw b z.taken }) l (λ a. s a ∙ z.failures a)
+        distance_refuses w size (until_range size spells t) adds says r d e result (subst (λ o. RefusesPeeked w.kind w.heapless o result) i (ended_peeked v.is_open result n c)) (Absent m (sym i ∙ c), refl) (record { count = z.to; taken = rw b z.taken }) l (λ a. s a ∙ z.failures a)

@@ -8,11 +8,11 @@ use Rattle.combine_base.specs.declared.stream.Kind.TheVariants as kinds
 use Rattle.combine_base.specs.declared.error.result.ParseResult.{ParseResult}
 use Rattle.combine_base.specs.declared.error.result.ParseResult.TheVariants.{CommitOk, PeekOk, CommitErr, PeekErr}
 
-module _ {V E : Type 0} (kind : E → Kind) (never_allocates : Type 0) (is_open : Bool) where
+module _ {V E : Type 0} (kind : E → Kind) (heapless : Type 0) (is_open : Bool) where
   abbrev pub refuses_peeked : ParseResult V E → Type 0
   refuses_peeked (CommitOk v) = ⊥
   refuses_peeked (PeekOk v) = ⊥
-  refuses_peeked (CommitErr e) = (kind e ≡ kinds.Memory) × (never_allocates → ⊥)
+  refuses_peeked (CommitErr e) = (kind e ≡ kinds.Memory) × (heapless → ⊥)
   refuses_peeked (PeekErr t) = (kind t.error ≡ kinds.Refused) ⊎ ((kind t.error ≡ kinds.End) × (is_open ≡ false))
 
   -- a peeked refusal, which may say of an ended list that it ends, unless that found no memory
@@ -22,11 +22,11 @@ module _ {V E : Type 0} (kind : E → Kind) (never_allocates : Type 0) (is_open 
   -- no range of a given length could be taken: its items are too few, or end inside a token, or a read failed
   abbrev pub answers_none : Kind → ParseResult V E → Type 0
   answers_none kinds.Refused result = RefusesPeeked result
-  answers_none kinds.End result = NoToken kind never_allocates is_open kinds.End result
-  answers_none kinds.Memory result = NoToken kind never_allocates is_open kinds.Memory result
-  answers_none kinds.Read result = NoToken kind never_allocates is_open kinds.Read result
-  answers_none kinds.Reset result = NoToken kind never_allocates is_open kinds.Reset result
-  answers_none kinds.Lost result = NoToken kind never_allocates is_open kinds.Lost result
+  answers_none kinds.End result = NoToken kind heapless is_open kinds.End result
+  answers_none kinds.Memory result = NoToken kind heapless is_open kinds.Memory result
+  answers_none kinds.Read result = NoToken kind heapless is_open kinds.Read result
+  answers_none kinds.Reset result = NoToken kind heapless is_open kinds.Reset result
+  answers_none kinds.Lost result = NoToken kind heapless is_open kinds.Lost result
 
   pub record NoRange (why : Kind) (result : ParseResult V E) : Type 0 where
     pub is : answers_none why result

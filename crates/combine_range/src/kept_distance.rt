@@ -111,7 +111,7 @@ pub fn refused_here<O, Input: RangeStream>(
 where
     Input::Range: Range,
     requires { (Input.view input.now).is_open ≡ true → (Input.view input.now).unread ≡ [] → ⊥ }
-    ensures answers { RefusesPeeked Input.Error.observers.kind Input.Error.observers.never_allocates (Input.view input.now).is_open result }
+    ensures answers { RefusesPeeked Input.Error.observers.kind Input.Error.observers.heapless (Input.view input.now).is_open result }
     ensures says { PeeksSaying (refuses_one Input.Error.observers position (Input.view input.now).unread) result }
 {
     if input.range().len() == 0 {
@@ -129,7 +129,7 @@ pub fn no_range<O, Input: Stream>(
     why: Kind,
     position: Input::Position,
 ) -> ParseResult<O, Input::Error>
-    ensures answers { NoRange Input.Error.observers.kind Input.Error.observers.never_allocates (Input.view input.now).is_open why result }
+    ensures answers { NoRange Input.Error.observers.kind Input.Error.observers.heapless (Input.view input.now).is_open why result }
     ensures says { PeeksSaying (says_why Input.Error.observers position why) result }
 {
     match why {

@@ -59,7 +59,7 @@ module _ {P T R A S E : Type 0} (w : World P T S E) (m : Meaning P T R E A S) (r
   failed_on e (InTurn p) k i = asks_on (need_of_more w m r e k i p)
   failed_on e (TakesNothing a c j t) k i = by_told t.is
     where
-      by_told : (w.kind e ≡ kinds.Refused) ⊎ ((w.kind e ≡ kinds.Memory) × (w.never_allocates → ⊥)) → Continues w.step m r.first r.state r.left r.old r.new
+      by_told : (w.kind e ≡ kinds.Refused) ⊎ ((w.kind e ≡ kinds.Memory) × (w.heapless → ⊥)) → Continues w.step m r.first r.state r.left r.old r.new
       by_told (inl q) = absurd (cc)
       by_told (inr q) = absurd (let z = q.0 in cc)
   failed_on e (Unreset q c y) k i = absurd (cc)

@@ -51,7 +51,7 @@ module _ {P T R A S E : Type 0} (w : World P T S E) (m : Meaning P T R E A S) (r
       At : Kind → Type 0
       At i = error_stops i r.new.is_open l
 
-      by_told : (w.kind e ≡ kinds.Refused) ⊎ ((w.kind e ≡ kinds.Memory) × (w.never_allocates → ⊥)) → here l
+      by_told : (w.kind e ≡ kinds.Refused) ⊎ ((w.kind e ≡ kinds.Memory) × (w.heapless → ⊥)) → here l
       by_told (inl i) = let z : l ≡ Refused true = subst At i q in (Accepted a j.accepts.count k, j.accepts.meant, ap (accepted_at j.accepts.count k false) j.says ∙ ap StopsTurns (sym z))
       by_told (inr i) = absurd (subst At i.0 q)
   fails_here e (Unreset i c y) l q = absurd (subst (λ (k : Kind). error_stops k r.new.is_open l) i q)

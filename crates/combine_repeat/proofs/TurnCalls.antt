@@ -107,10 +107,10 @@ module _ {P T R A V S U E Mark : Type 0} (w : World P T S E) (fresh : U → Type
         by_commitment false f = record { is = peeked (w.kind e.error) f p.is }
 
     -- a turn that the rule refuses, with an error that says why
-    pub turn_told : (i : Outcome A) (d : E) → begun m r.first r.state r.old i → rule.judge s.mark i ≡ StopsTurns (Refused true) → IsRefusalOrMemory w.kind w.never_allocates d → EndsWithTurn → Leaves w r → (w.counts_failures → r.after ≡ r.before) → Answers (around w fresh) whole u (CommitErr d)
+    pub turn_told : (i : Outcome A) (d : E) → begun m r.first r.state r.old i → rule.judge s.mark i ≡ StopsTurns (Refused true) → IsRefusalOrMemory w.kind w.heapless d → EndsWithTurn → Leaves w r → (w.counts_failures → r.after ≡ r.before) → Answers (around w fresh) whole u (CommitErr d)
     turn_told i d b j t k y a = by_kind t.is
       where
-        by_kind : (w.kind d ≡ kinds.Refused) ⊎ ((w.kind d ≡ kinds.Memory) × (w.never_allocates → ⊥)) → Answers (around w fresh) whole u (CommitErr d)
+        by_kind : (w.kind d ≡ kinds.Refused) ⊎ ((w.kind d ≡ kinds.Memory) × (w.heapless → ⊥)) → Answers (around w fresh) whole u (CommitErr d)
         by_kind (inl e) = record { is = rw e (rw (or_true s.committed) at (turn_refuses i true b j k y a)) }
         by_kind (inr e) = record { is = rw e.0 (λ f l. e.1 f, leaves k y) }
 

@@ -38,7 +38,7 @@ module _ {P T R A S E : Type 0} (w : World P T S E) (m : Meaning P T R E A S) (r
     -- by a committed refusal, need of more, or a fault of the turn
     InTurn : (answers : Answers w m r (CommitErr e)) → HasIterTurnFailed e
     -- the turn is accepted, and takes nothing
-    TakesNothing : (a : A) (committed : Bool) (judged : JudgesIterTurn a committed false) (told : IsRefusalOrMemory w.kind w.never_allocates e) → HasIterTurnFailed e
+    TakesNothing : (a : A) (committed : Bool) (judged : JudgesIterTurn a committed false) (told : IsRefusalOrMemory w.kind w.heapless e) → HasIterTurnFailed e
     -- the stream could not be put back
     Unreset : (reset : w.kind e ≡ kinds.Reset) (counted : r.before.resets < r.after.resets) (leaves : Leaves w r) → HasIterTurnFailed e
 

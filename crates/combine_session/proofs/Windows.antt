@@ -153,7 +153,7 @@ module _ {P T R E A S : Type 0} (errors : Observers T R P E) (step : P → T →
         IsWindowAnswer (Ok answers.More) = (more ≡ true) × on errors step start m (take c whole) more Undecided × WindowReached left taken c
         IsWindowAnswer (Ok (answers.Accepted value n committed)) = on errors step start m (take c whole) more (Accepted value n committed)
         IsWindowAnswer (Ok (answers.Refused error n committed)) = on errors step start m (take c whole) more (Refused committed) × (n ≤ c) × RefusesWindow errors step start m whole error committed
-        IsWindowAnswer (Err k) = (k ≡ kinds.Memory) × (errors.never_allocates → m.heapless → ⊥)
+        IsWindowAnswer (Err k) = (k ≡ kinds.Memory) × (errors.heapless → m.heapless → ⊥)
 
         accepted : (a : A) (k : Bool) → Accepts around m run a k → on errors step start m (take c whole) more (Accepted a taken k)
         accepted a k p = subst (λ n. on errors step start m (take c whole) more (Accepted a n k)) (sym (place_after p.count taken p.taken e)) (window_outcome more (Accepted a p.count k) p.meant)

@@ -66,7 +66,7 @@ module _ {P T R E Value State : Type 0} (errors : Observers T R P E) (step : P �
 
     abbrev pub runs_cuts : Result (ℕ × Answer Value E) Kind → Type 0
     runs_cuts (Ok r) = DecidedAfterCuts r.0 r.1
-    runs_cuts (Err k) = (k ≡ kinds.Memory) × (errors.never_allocates → m.heapless → ⊥)
+    runs_cuts (Err k) = (k ≡ kinds.Memory) × (errors.heapless → m.heapless → ⊥)
 
     pub record RunsCuts (result : Result (ℕ × Answer Value E) Kind) : Type 0 where
       pub is : runs_cuts result

@@ -278,7 +278,7 @@ module _ {P T R A V S E : Type 0} (w : World P T S E) (errors : Observers T R P 
         refused : Refuses (around w until_fresh) (until w.step errors c m) u true
         refused = record { meant = stops_here (Accepted (Some value) a.count k) (Refused true) (Refused true) a.meant (ap block_at i) refl tt; leaves = leaves q left; failures = counts_failures q a.failures }
 
-        by_kind : (w.kind e ≡ kinds.Refused) ⊎ ((w.kind e ≡ kinds.Memory) × (w.never_allocates → ⊥)) → Answers (around w until_fresh) (until w.step errors c m) u (CommitErr e)
+        by_kind : (w.kind e ≡ kinds.Refused) ⊎ ((w.kind e ≡ kinds.Memory) × (w.heapless → ⊥)) → Answers (around w until_fresh) (until w.step errors c m) u (CommitErr e)
         by_kind (inl k) = record { is = rw k refused }
         by_kind (inr k) = record { is = rw k.0 (λ f l. k.1 f, leaves q left) }
     until_fails marked e (BlockUnstored k a y) q = record { is = rw k (λ f l. a l.1, leaves q y) }

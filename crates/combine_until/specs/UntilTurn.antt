@@ -94,7 +94,7 @@ module _ {P T R A V S E : Type 0} (w : World P T S E) (m : Meaning P T R E (Opti
     -- by a committed refusal or a fault of the parser
     InTurn : (settled : (w.kind e ≡ kinds.End) × (r.new.is_open ≡ true) → ⊥) (answers : Answers w m r (CommitErr e)) → HasBlockFailed e
     -- it is accepted, and takes nothing
-    TakesNothing : (value : A) (committed : Bool) (accepts : Accepts w m r (Some value) committed) (idle : (committed && (old.took_before || nat_lt 0 accepts.count)) ≡ false) (told : IsRefusalOrMemory w.kind w.never_allocates e) → HasBlockFailed e
+    TakesNothing : (value : A) (committed : Bool) (accepts : Accepts w m r (Some value) committed) (idle : (committed && (old.took_before || nat_lt 0 accepts.count)) ≡ false) (told : IsRefusalOrMemory w.kind w.heapless e) → HasBlockFailed e
     -- its value finds no memory
     BlockUnstored : (memory : w.kind e ≡ kinds.Memory) (asked : c.heapless → ⊥) (leaves : Leaves w r) → HasBlockFailed e
     -- the stream could not be put back

@@ -1,126 +1,114 @@
-//! What is open, and what comes of what is read there.
+//! The grammar of what one step reads. `I` is the stream.
 
-use crate::node::{Document, Node};
-use crate::places::{Place, Step};
-use crate::texts::Text;
-use combine_nested::nested::{Frame, Next};
-use std::alloc::{AllocError, Global};
+use crate::place::Place;
+use combine::parser::choice::or;
+use combine::parser::choice::types::{Optional, Or};
+use combine::parser::combinator::types::{Ignore, Map, Recognize};
+use combine::parser::combinator::{ignore, map, recognize};
+use combine::parser::repeat::types::{SkipMany, SkipMany1};
+use combine::parser::sequence::skip;
+use combine::parser::sequence::types::Skip;
+use combine::parser::token::types::{Satisfy, Token};
+use combine::{Function, Parser, eof, one_of, optional, satisfy, skip_many, skip_many1, token};
+use std::alloc::Global;
 
-/// What one step reads, and the comma or the colon after it, where one was read with it.
-pub type Item = (Lexeme, Option<u8>);
-
-/// What stands between blanks.
-#[derive(Drop)]
-pub enum Lexeme {
-    Number(Vec<u8>),
-    Text(Text),
-    /// `null`, `true` or `false`.
-    Word(Option<bool>),
-    /// Letters that say nothing.
-    NoWord,
+/// A class of bytes.
+#[derive(Clone, Copy, Drop)]
+pub enum Class {
+    Blank,
+    /// What numbers and words are made of.
+    Bare,
+    /// What stands in a text as itself.
+    Plain,
+    /// What stands after a backslash.
+    Escape,
     /// A comma, a colon or a bracket.
-    Sign(u8),
+    Sign,
+    /// The comma or the colon that may stand after what comes at a place.
+    After(Place),
 }
 
-impl Lexeme {
-    /// Returns what such a word is.
-    pub fn of_word(word: Option<&[u8]>) -> Lexeme {
-        match word {
-            Some(b"null") => Lexeme::Word(None),
-            Some(b"true") => Lexeme::Word(Some(true)),
-            Some(b"false") => Lexeme::Word(Some(false)),
-            _ => Lexeme::NoWord,
+impl Function<u8> for Class {
+    type Output = bool;
+
+    #[inline(always)]
+    fn call(&self, byte: u8) -> bool {
+        match self {
+            Class::Blank => matches!(byte, b' ' | b'\t' | b'\n' | b'\r'),
+            Class::Bare => byte.is_ascii_alphanumeric() || matches!(byte, b'+' | b'-' | b'.'),
+            Class::Plain => byte >= b' ' && byte != b'"' && byte != b'\\',
+            Class::Escape => b"\"\\/bfnrtu".contains(&byte),
+            Class::Sign => matches!(byte, b',' | b':' | b'[' | b']' | b'{' | b'}'),
+            Class::After(place) => place
+                .after()
+                .and_then(|it: Place| it.after_sign(byte))
+                .is_some(),
         }
     }
 }
 
-/// An array or an object that is open, or the whole. The innermost has the parts of the document so far.
-#[derive(Drop)]
-pub struct Open {
-    alloc: Global,
-    /// What may come next.
-    pub place: Place,
-    nodes: Document,
-}
+/// A text with its quotes, a number or a word, as the input has it, and the comma or the colon after it; or no bytes, and a sign.
+pub type Item = (Vec<u8>, Option<u8>);
 
-/// What comes of what is open.
-type Then = Next<Open, Document>;
+/// Makes an item of a sign alone.
+#[derive(Clone, Copy, Drop)]
+pub struct ToItem(Global);
 
-impl Open {
-    /// Returns the whole, of which nothing was read.
-    pub fn new(alloc: Global) -> Open {
-        Open {
-            alloc,
-            place: Place::Whole,
-            nodes: Vec::new(alloc),
-        }
-    }
+impl Function<u8> for ToItem {
+    type Output = Item;
 
-    /// What comes of such a step, with that sign after it.
     #[inline(always)]
-    fn stepping(self, step: Option<Step>, sign: Option<u8>) -> Then {
-        match step {
-            Some(Step::To(place)) => {
-                let behind = sign.and_then(|sign: u8| place.behind_sign(sign));
-                let place = behind.unwrap_or(place);
-                Next::Stay(Open { place, ..self })
-            }
-            Some(Step::Into(place)) => {
-                let around = Open {
-                    place: self.place,
-                    ..Open::new(self.alloc)
-                };
-                Next::Open(around, Open { place, ..self })
-            }
-            Some(Step::Out) => Next::Close(self.nodes),
-            None => Next::Refuse(self.place.expected()),
-        }
+    fn call(&self, sign: u8) -> Item {
+        (Vec::new(self.0), Some(sign))
     }
 }
 
-impl Frame for Open {
-    type Item = Item;
+pub type Byte<I> = Satisfy<I, Class>;
 
-    type Value = Document;
+pub type Blanks<I> = SkipMany<Byte<I>>;
 
-    #[inline(always)]
-    fn take(self, item: Item) -> Result<Then, AllocError> {
-        let (lexeme, sign) = item;
-        let part = match lexeme {
-            Lexeme::Number(number) => Node::Number(number),
-            Lexeme::Text(text) => match text.finished() {
-                Ok(text) if self.place.takes_name() => Node::Name(text),
-                Ok(text) => Node::Text(text),
-                Err(why) => return Ok(Next::Refuse(why)),
-            },
-            Lexeme::Word(None) => Node::Null,
-            Lexeme::Word(Some(value)) => Node::Bool(value),
-            Lexeme::Sign(b'[') => Node::ArrayBegins,
-            Lexeme::Sign(b']') => Node::ArrayEnds,
-            Lexeme::Sign(b'{') => Node::ObjectBegins,
-            Lexeme::Sign(b'}') => Node::ObjectEnds,
-            Lexeme::Sign(sign) => {
-                let step = self
-                    .place
-                    .behind_sign(sign)
-                    .map(|place: Place| Step::To(place));
-                return Ok(self.stepping(step, None));
-            }
-            Lexeme::NoWord => return Ok(Next::Refuse(self.place.expected())),
-        };
-        let step = self.place.step(&part);
-        let mut open = self;
-        open.nodes.push(part)?;
-        Ok(open.stepping(step, sign))
-    }
+/// Parses the blanks that may stand between parts.
+pub fn blanks<I>() -> Blanks<I> {
+    skip_many(satisfy(Class::Blank))
+}
 
-    #[inline(always)]
-    fn join(self, value: Document) -> Result<Then, AllocError> {
-        let step = self.place.behind_value();
-        let open = Open {
-            nodes: value,
-            ..self
-        };
-        Ok(open.stepping(step, None))
-    }
+pub type Character<I> = Or<Ignore<Byte<I>>, Ignore<(Token<I, u8>, Byte<I>)>>;
+
+pub type Text<I> = (Token<I, u8>, SkipMany<Character<I>>, Token<I, u8>);
+
+/// Parses a text. Its escapes stay as they are.
+pub fn text<I>() -> Text<I> {
+    let escape = (token(b'\\'), satisfy(Class::Escape));
+    let character = or(ignore(satisfy(Class::Plain)), ignore(escape));
+    (token(b'"'), skip_many(character), token(b'"'))
+}
+
+pub type Part<I> = Recognize<Vec<u8>, Or<Ignore<Text<I>>, SkipMany1<Byte<I>>>>;
+
+pub type Step<I> = Skip<
+    Or<(Part<I>, Optional<Byte<I>>), Map<Byte<I>, ToItem, Item>>,
+    Blanks<I>,
+    Item,
+>;
+
+/// Parses what comes at a place, and blanks.
+pub fn step<I>(alloc: Global, place: Place) -> Step<I> {
+    let part = or(ignore(text()), skip_many1(satisfy(Class::Bare)));
+    let after = optional(satisfy(Class::After(place)));
+    let sign = map(satisfy(Class::Sign), ToItem(alloc));
+    skip(or((recognize(alloc, part), after), sign), blanks())
+}
+
+/// Returns whether these bytes are a number.
+pub fn is_number(bytes: &[u8]) -> bool {
+    let digits = || skip_many1(satisfy(|byte: u8| byte.is_ascii_digit()));
+    let whole = or(ignore(token(b'0')), digits());
+    let fraction = optional((token(b'.'), digits()));
+    let exponent = optional((
+        one_of([b'e', b'E']),
+        optional(one_of([b'+', b'-'])),
+        digits(),
+    ));
+    let mut number = (optional(token(b'-')), whole, fraction, exponent, eof());
+    number.parse(bytes).is_ok()
 }

@@ -3,12 +3,10 @@
 //! It is what the program `example_json` stands on.
 #![tactic(auto)]
 
-mod classes;
-mod document;
 mod grammar;
 mod node;
-mod parts;
-mod places;
+mod open;
+mod place;
 mod reading;
 mod texts;
 mod writing;

@@ -1,177 +1,73 @@
-//! What is collected as it is read: texts, piece by piece, and words.
-ghost use Rattle.std.specs.Prelude.{◌<◌, OnOk, vec_capacity, vec_len};
+//! Texts: what stands between two quotes, and what it says.
 
-use combine_base::repeat::Append;
 use std::alloc::{AllocError, Global};
-use std::mem;
 
-/// How many letters the longest word has that says something.
-const LETTERS: usize = 5;
+/// A character and the rest after its escape, or why there is none.
+type Escaped<'a> = Result<(char, &'a str), &'static str>;
 
-/// A word, of which the first letters are kept.
-#[derive(Clone, Copy, Drop)]
-pub struct Word {
-    kept: [u8; LETTERS],
-    /// How many letters it has, those that aren't kept among them.
-    length: usize,
-}
-
-impl Word {
-    /// Returns its letters, if all are kept.
-    pub fn letters(&self) -> Option<&[u8]> {
-        self.kept.get(..self.length)
-    }
-}
-
-impl Append<u8> for Word {
-    ghost Held = { Unit {0} };
-
-    ghost held = { λ _. tt };
-
-    ghost none = { tt };
-
-    ghost more = { λ _ _. tt };
-
-    ghost heapless = { ⊥ };
-
-    fn empty(_alloc: Global) -> Word {
-        Word {
-            kept: [0; LETTERS],
-            length: 0,
-        }
-    }
-
-    #[inline(always)]
-    fn append(&mut self, letter: u8) -> Result<(), AllocError> {
-        if let Some(kept) = self.kept.get_mut(self.length) {
-            *kept = letter;
-        }
-        self.length = self.length.saturating_add(1);
-        Ok(())
-    }
-}
-
-/// A piece of a text.
-#[derive(Clone, Copy, Drop)]
-pub enum Piece {
-    /// A byte of its UTF-8.
-    Byte(u8),
-    /// What an escape says: a character, or half of a pair of surrogates.
-    Unit(u32),
-}
-
-/// What is known of halves of pairs of surrogates.
-#[derive(Clone, Copy)]
-enum Half {
-    None,
-    /// The first half of a pair, whose second comes next.
-    First(u32),
-    /// A half has come without the other.
-    Alone,
-}
-
-/// A text so far.
-///
-/// What is done rarely takes it by value, so that a text which a loop collects needs no place in memory.
-#[derive(Drop)]
-pub struct Text {
-    bytes: Vec<u8>,
-    half: Half,
-}
-
-impl Text {
-    /// Returns the whole text, or why it is none.
-    pub fn finished(self) -> Result<String, &'static str> {
-        let Half::None = self.half else {
-            return Err("half of a pair of surrogates");
+/// Returns what a text says between whose quotes these bytes are, or why it says nothing.
+pub fn unescape(alloc: Global, bytes: &[u8]) -> Result<Result<String, &'static str>, AllocError> {
+    let Ok(mut rest) = str::from_utf8(bytes) else {
+        return Ok(Err("text is not UTF-8"));
+    };
+    let mut text = String::new(alloc);
+    // Each turn reads an escape, so there are no more turns than bytes.
+    for _turn in bytes {
+        let Some((plain, after)) = rest.split_once('\\') else {
+            break;
         };
-        String::from_utf8(self.bytes).map_err(|_error| "text is not UTF-8")
-    }
-
-    /// Adds what an escape says.
-    fn push(&mut self, unit: u32) -> Result<(), AllocError> {
-        let character = match (self.half, unit) {
-            (Half::None, 0xd800..=0xdbff) => {
-                self.half = Half::First(unit);
-                return Ok(());
+        text.push_str(plain)?;
+        match escape(after) {
+            Ok((character, after)) => {
+                text.push(character)?;
+                rest = after;
             }
-            (Half::None, _) => char::from_u32(unit),
-            (Half::First(high), 0xdc00..=0xdfff) => {
-                let above = ((high & 0x3ff) << 10) | (unit & 0x3ff);
-                char::from_u32(above.saturating_add(0x10000))
-            }
-            _ => None,
-        };
-        let Some(character) = character else {
-            self.half = Half::Alone;
-            return Ok(());
-        };
-        self.half = Half::None;
-        let mut bytes = [0u8; 4];
-        let utf8 = character.encode_utf8(&mut bytes);
-        self.bytes.extend_from_slice(utf8.as_bytes())
-    }
-
-    /// The text with what an escape says after it.
-    #[cold]
-    #[inline(never)]
-    fn with(self, unit: u32) -> (Text, Result<(), AllocError>) {
-        let mut text = self;
-        let done = text.push(unit);
-        (text, done)
-    }
-}
-
-/// The bytes, with room for more where that is found.
-#[cold]
-#[inline(never)]
-fn with_room(bytes: Vec<u8>) -> (Vec<u8>, Result<(), AllocError>)
-    ensures { OnOk result.1 (vec_len result.0 < vec_capacity result.0) }
-{
-    let mut bytes = bytes;
-    let found = bytes.reserve(32);
-    (bytes, found)
-}
-
-impl Append<Piece> for Text {
-    ghost Held = { Unit {0} };
-
-    ghost held = { λ _. tt };
-
-    ghost none = { tt };
-
-    ghost more = { λ _ _. tt };
-
-    ghost heapless = { ⊥ };
-
-    fn empty(alloc: Global) -> Text {
-        Text {
-            bytes: Vec::new(alloc),
-            half: Half::None,
+            Err(why) => return Ok(Err(why)),
         }
     }
+    text.push_str(rest)?;
+    Ok(Ok(text))
+}
 
-    #[inline(always)]
-    fn append(&mut self, piece: Piece) -> Result<(), AllocError> {
-        let alloc = *self.bytes.allocator();
-        let byte = match piece {
-            Piece::Byte(byte) => byte,
-            Piece::Unit(unit) => {
-                let (text, done) = mem::replace(self, Text::empty(alloc)).with(unit);
-                *self = text;
-                return done;
-            }
-        };
-        let Half::None = self.half else {
-            self.half = Half::Alone;
-            return Ok(());
-        };
-        if self.bytes.capacity() <= self.bytes.len() {
-            let (bytes, found) = with_room(mem::replace(&mut self.bytes, Vec::new(alloc)));
-            self.bytes = bytes;
-            found?;
-        }
-        self.bytes.push_reserved(byte);
-        Ok(())
+/// Reads what follows a backslash.
+fn escape(text: &str) -> Escaped<'_> {
+    let mut rest = text.chars();
+    let character = match rest.next() {
+        Some('b') => '\u{8}',
+        Some('f') => '\u{c}',
+        Some('n') => '\n',
+        Some('r') => '\r',
+        Some('t') => '\t',
+        Some('u') => return code_point(rest.as_str()),
+        Some(itself) => itself,
+        None => return Err("escape expected"),
+    };
+    Ok((character, rest.as_str()))
+}
+
+/// Reads what follows `\u`: four digits, or two surrogates.
+fn code_point(text: &str) -> Escaped<'_> {
+    let (first, rest) = unit(text)?;
+    if let Some(character) = char::from_u32(first) {
+        return Ok((character, rest));
     }
+    let half = "half of a pair of surrogates";
+    let (second, rest) = unit(rest.strip_prefix("\\u").ok_or(half)?)?;
+    if first >= 0xdc00 || second & !0x3ff != 0xdc00 {
+        return Err(half);
+    }
+    let above = ((first & 0x3ff) << 10) | (second & 0x3ff);
+    let character = char::from_u32(above.saturating_add(0x10000));
+    Ok((character.ok_or(half)?, rest))
+}
+
+/// Reads four hexadecimal digits.
+fn unit(text: &str) -> Result<(u32, &str), &'static str> {
+    let mut rest = text.chars();
+    let mut number = 0;
+    for _digit in 0..4 {
+        let digit = rest.next().and_then(|it: char| it.to_digit(16));
+        number = (number << 4) | digit.ok_or("four hexadecimal digits expected")?;
+    }
+    Ok((number, rest.as_str()))
 }

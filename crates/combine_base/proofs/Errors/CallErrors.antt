@@ -75,7 +75,7 @@ module _ {P T R A S E : Type 0} (w : World P T S E) (m : Meaning P T R E A S) (r
 
 -- the same world, with states of another type
 abbrev pub around : {P T S S' E : Type 0} → World P T S E → (S' → Type 0) → World P T S' E
-around w fresh = record { step = w.step; kind = w.kind; never_allocates = w.never_allocates; counts_failures = w.counts_failures; fresh = fresh }
+around w fresh = record { step = w.step; kind = w.kind; heapless = w.heapless; counts_failures = w.counts_failures; fresh = fresh }
 
 module _ {P T R A B S S' E : Type 0} (w : World P T S E) (fresh : S' → Type 0) (m : Meaning P T R E A S) (m' : Meaning P T R E B S') (r : CallRecord P T S) (u : CallRecord P T S') where
   -- what a call around owes for an error that isn't need of more

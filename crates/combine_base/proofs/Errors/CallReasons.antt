@@ -68,10 +68,10 @@ reasons_hand_on kind is_open f g e i r true x h = i x (r true x (record { is = h
 reasons_hand_on kind is_open f g e i r false x h = absurd h.is
 
 -- where the end was looked for, a committed error is need of more, or a fault
-pub reasons_unended : {V V' E : Type 0} (kind : E → Kind) (never_allocates : Type 0) (is_open : Bool) (says : Bool → E → Type 0) (why : Kind) (e : E) → NoToken {V = V} kind never_allocates is_open why (CommitErr e) → why ≡ kinds.End → Reasoned {V = V'} kind is_open says (CommitErr e)
-reasons_unended {V} {V'} kind never_allocates is_open says why e h i = by_case h.is
+pub reasons_unended : {V V' E : Type 0} (kind : E → Kind) (heapless : Type 0) (is_open : Bool) (says : Bool → E → Type 0) (why : Kind) (e : E) → NoToken {V = V} kind heapless is_open why (CommitErr e) → why ≡ kinds.End → Reasoned {V = V'} kind is_open says (CommitErr e)
+reasons_unended {V} {V'} kind heapless is_open says why e h i = by_case h.is
   where
-    by_case : ((kind e ≡ why) × (why ≡ kinds.End → is_open ≡ true)) ⊎ ((kind e ≡ kinds.Memory) × (never_allocates → ⊥)) → Reasoned {V = V'} kind is_open says (CommitErr e)
+    by_case : ((kind e ≡ why) × (why ≡ kinds.End → is_open ≡ true)) ⊎ ((kind e ≡ kinds.Memory) × (heapless → ⊥)) → Reasoned {V = V'} kind is_open says (CommitErr e)
     by_case (inl p) = reasons_need kind is_open says e (p.0 ∙ i) (p.1 i)
     by_case (inr p) = reasons_fault kind is_open says e kinds.Memory p.0 tt
 

@@ -94,7 +94,7 @@ module _ {P T R V S E : Type 0} (step : P → T → P) (s : Observers T R P E) (
   explained_answers t own heapless adds g p a (PeekOk v) q = absurd q.is
   explained_answers t own heapless adds g p a (CommitErr e) q = record { is = rw (q.is.0, q.is.1) (λ f l. by_case a.is f l, (refuses_back (peeked_refusal explained_world m r (s.kind t.error) p.is)).leaves) }
     where
-      by_case : ((is : List (ErrorItem T R)) × adds is × Added s is t.error own) ⊎ Unstored s heapless t.error own → s.never_allocates → m.heapless → ⊥
+      by_case : ((is : List (ErrorItem T R)) × adds is × Added s is t.error own) ⊎ Unstored s heapless t.error own → s.heapless → m.heapless → ⊥
       by_case (inl k) f l = subst (λ x. peeks explained_world m r x) (sym k.2.kind ∙ q.is.1) p.is
       by_case (inr u) f l = u.memory f (g l)
   explained_answers t own heapless adds g p a (PeekErr u) q = record { is = rw q.is.0 (by_case a.is) }

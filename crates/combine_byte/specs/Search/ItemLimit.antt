@@ -25,11 +25,11 @@ module _ {P T : Type 0} (counts_failures : Type 0) (step : P → T → P) (size 
   pub record PassesUpTo (result : Result Unit Kind) : Type 0 where
     pub is : passes_up_to result
 
-module _ {V E : Type 0} (kind : E → Kind) (never_allocates : Type 0) (empty : Bool) where
+module _ {V E : Type 0} (kind : E → Kind) (heapless : Type 0) (empty : Bool) where
   abbrev pub refuses_absent : ParseResult V E → Type 0
   refuses_absent (CommitOk v) = ⊥
   refuses_absent (PeekOk v) = ⊥
-  refuses_absent (CommitErr e) = ((kind e ≡ kinds.End) × (empty ≡ false)) ⊎ ((kind e ≡ kinds.Memory) × (never_allocates → ⊥))
+  refuses_absent (CommitErr e) = ((kind e ≡ kinds.End) × (empty ≡ false)) ⊎ ((kind e ≡ kinds.Memory) × (heapless → ⊥))
   refuses_absent (PeekErr t) = (kind t.error ≡ kinds.End) × (empty ≡ true)
 
   -- peeked where nothing is unread, and else committed, unless the error found no memory to say that the input ended

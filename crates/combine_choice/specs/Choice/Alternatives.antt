@@ -24,7 +24,7 @@ module _ {T R P V E : Type 0} (s : Observers T R P E) (joins : E → E → E →
   abbrev pub refuses_both : E → ParseResult V E → Type 0
   refuses_both second (CommitOk v) = ⊥
   refuses_both second (PeekOk v) = ⊥
-  refuses_both second (CommitErr e) = (s.kind e ≡ kinds.Memory) × (s.never_allocates → ⊥)
+  refuses_both second (CommitErr e) = (s.kind e ≡ kinds.Memory) × (s.heapless → ⊥)
   refuses_both second (PeekErr t) = joins first second t.error
 
   abbrev pub after_refusal : ParseResult V E → ParseResult V E → Type 0

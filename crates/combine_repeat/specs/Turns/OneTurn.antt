@@ -63,11 +63,11 @@ module _ {P T R A V S E : Type 0} (w : World P T S E) (b : Bounds) (ending : A �
     -- by a committed refusal or a fault of the turn
     InTurn : (settled : (w.kind e ≡ kinds.End) × (r.new.is_open ≡ true) → ⊥) (answers : Answers w m r (CommitErr e)) → HasTurnFailed e
     -- the turn is accepted, and takes nothing
-    TakesNothing : (turn : A × Bool) (judged : JudgesTurn w b ending m r old.index turn false) (told : IsRefusalOrMemory w.kind w.never_allocates e) → HasTurnFailed e
+    TakesNothing : (turn : A × Bool) (judged : JudgesTurn w b ending m r old.index turn false) (told : IsRefusalOrMemory w.kind w.heapless e) → HasTurnFailed e
     -- its value finds no memory
     ValueUnstored : (turn : A × Bool) (accepts : Accepts w m r turn.0 turn.1) (memory : w.kind e ≡ kinds.Memory) (asked : c.heapless → ⊥) → HasTurnFailed e
     -- what is said of a missing turn finds no memory
-    Untold : (refused : Refuses w m r false) (memory : w.kind e ≡ kinds.Memory) (asked : w.never_allocates → ⊥) → HasTurnFailed e
+    Untold : (refused : Refuses w m r false) (memory : w.kind e ≡ kinds.Memory) (asked : w.heapless → ⊥) → HasTurnFailed e
     -- the stream could not be put back
     Unreset : (reset : w.kind e ≡ kinds.Reset) (counted : r.before.resets < r.after.resets) (leaves : Leaves w r) → HasTurnFailed e
 

@@ -44,9 +44,9 @@ accepts_as kind gives infallible true v p = record { is = (p, refl) }
 accepts_as kind gives infallible false v p = record { is = (p, refl) }
 
 -- the refusal at the end of an ended list, committed or not
-pub end_refused : {V V' E : Type 0} (kind : E → Kind) (never_allocates : Type 0) (is_open committed : Bool) (why : Kind) (t : Tracked E) → NoToken {V = V} kind never_allocates is_open why (PeekErr t) → FindsNone {V = V'} kind never_allocates is_open committed why (refused_as committed t)
-end_refused kind never_allocates is_open true why t h = record { is = inl (h.is.0 ∙ sym h.is.1, λ i j. refl) }
-end_refused kind never_allocates is_open false why t h = record { is = (h.is.0, h.is.1, h.is.2, refl) }
+pub end_refused : {V V' E : Type 0} (kind : E → Kind) (heapless : Type 0) (is_open committed : Bool) (why : Kind) (t : Tracked E) → NoToken {V = V} kind heapless is_open why (PeekErr t) → FindsNone {V = V'} kind heapless is_open committed why (refused_as committed t)
+end_refused kind heapless is_open true why t h = record { is = inl (h.is.0 ∙ sym h.is.1, λ i j. refl) }
+end_refused kind heapless is_open false why t h = record { is = (h.is.0, h.is.1, h.is.2, refl) }
 
 module _ {P T R V S E : Type 0} (w : World P T S E) (errors : Observers T R P E) (l : TokenList T) (expected : Option (Info T R)) (gives : V → Type 0) (matched : S → ℕ) (heapless : Type 0) (adds : List (ErrorItem T R) → Type 0) (r : CallRecord P T S) where
   abbrev m : Meaning P T R E V S
@@ -110,10 +110,10 @@ module _ {P T R V S E : Type 0} (w : World P T S E) (errors : Observers T R P E)
       left_beyond : Moves w.step mid r.new → Leaves w r
       left_beyond x = record { count = q.progress.count + 1 + x.count; taken = takes_more w.step (q.progress.count + 1) x.count r.old mid r.new one_more x.taken; state = d }
 
-      pub match_refused : (e : E) → true ≡ nat_lt 0 n → IsRefusalOrMemory w.kind w.never_allocates e → r.new ≡ mid → r.after ≡ middle → Answers w m r (CommitErr e)
+      pub match_refused : (e : E) → true ≡ nat_lt 0 n → IsRefusalOrMemory w.kind w.heapless e → r.new ≡ mid → r.after ≡ middle → Answers w m r (CommitErr e)
       match_refused e b p i j = record { is = by_kind p.is }
         where
-          by_kind : (w.kind e ≡ kinds.Refused) ⊎ ((w.kind e ≡ kinds.Memory) × (w.never_allocates → ⊥)) → fails w m r (w.kind e)
+          by_kind : (w.kind e ≡ kinds.Refused) ⊎ ((w.kind e ≡ kinds.Memory) × (w.heapless → ⊥)) → fails w m r (w.kind e)
           by_kind (inl x) = rw x (subst (Refuses w m r) (sym b) (mismatched (left_there i) (λ _. j)))
           by_kind (inr x) = rw x.0 (λ y z. x.1 y, left_there i)
 
@@ -166,13 +166,13 @@ module _ {P T R V S E : Type 0} (w : World P T S E) (errors : Observers T R P E)
       is_ended why true n e = absurd (n (e, refl))
       is_ended why false n e = refl
 
-      pub match_unread : (why : Kind) (result : ParseResult V E) → no_token w.counts_failures w.step now r.new later r.after why → r.before.reads ≤ later.reads → ((why ≡ kinds.End) × (r.new.is_open ≡ true) → ⊥) → FindsNone w.kind w.never_allocates r.new.is_open committed why result → Answers w m r result
+      pub match_unread : (why : Kind) (result : ParseResult V E) → no_token w.counts_failures w.step now r.new later r.after why → r.before.reads ≤ later.reads → ((why ≡ kinds.End) × (r.new.is_open ≡ true) → ⊥) → FindsNone w.kind w.heapless r.new.is_open committed why result → Answers w m r result
       match_unread why result x i j p = record { is = by_result result (rw (as_open why x) at p.is) }
         where
           closed : why ≡ kinds.End → now.is_open ≡ false
           closed = is_ended why now.is_open (rw (as_open why x) at j)
 
-          by_result : (y : ParseResult V E) → finds_none w.kind w.never_allocates now.is_open committed why y → answers w m r y
+          by_result : (y : ParseResult V E) → finds_none w.kind w.heapless now.is_open committed why y → answers w m r y
           by_result (CommitOk v) p = absurd p
           by_result (PeekOk v) p = absurd p
           by_result (CommitErr e) (inl p) = rw p.0 (failing why x i closed p.1)
@@ -213,9 +213,9 @@ module _ {P T R V S E : Type 0} (w : World P T S E) (errors : Observers T R P E)
         open_end false j a = absurd (cc)
 
 -- the error of a mismatch is that of a refusal, unless an item of it found no memory
-pub mismatch_told : {T R P E : Type 0} (s : Observers T R P E) (position : P) (token : T) (expected : Option (Info T R)) (e : E) → Mismatch s position token expected e → IsRefusalOrMemory s.kind s.never_allocates e
+pub mismatch_told : {T R P E : Type 0} (s : Observers T R P E) (position : P) (token : T) (expected : Option (Info T R)) (e : E) → Mismatch s position token expected e → IsRefusalOrMemory s.kind s.heapless e
 mismatch_told s position token expected e h = record { is = by_case h.says.is }
   where
-    by_case : ((is : List (ErrorItem _ _)) × (is ≡ Unexpected (OfToken token) ∷ expecting expected) × Added s is h.own e) ⊎ Unstored s (Unit {0}) h.own e → (s.kind e ≡ kinds.Refused) ⊎ ((s.kind e ≡ kinds.Memory) × (s.never_allocates → ⊥))
+    by_case : ((is : List (ErrorItem _ _)) × (is ≡ Unexpected (OfToken token) ∷ expecting expected) × Added s is h.own e) ⊎ Unstored s (Unit {0}) h.own e → (s.kind e ≡ kinds.Refused) ⊎ ((s.kind e ≡ kinds.Memory) × (s.heapless → ⊥))
     by_case (inl x) = inl (x.2.kind ∙ h.new.kind)
     by_case (inr x) = inr (x.kind, λ f. x.memory f tt)

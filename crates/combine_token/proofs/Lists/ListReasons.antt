@@ -70,7 +70,7 @@ module _ {P T R V S E : Type 0} (w : World P T S E) (s : Observers T R P E) (l :
     closed true f = absurd (f (refl, refl))
     closed false f = refl
 
-    pub unread_reasons : (why : Kind) (result : ParseResult V E) → no_token w.counts_failures w.step now new later after why → ((why ≡ kinds.End) × (new.is_open ≡ true) → ⊥) → FindsNone s.kind s.never_allocates new.is_open committed why result → (why ≡ kinds.End → Reasoned s.kind new.is_open (SaysEnded s old.position committed) result) → Reasoned s.kind new.is_open says result
+    pub unread_reasons : (why : Kind) (result : ParseResult V E) → no_token w.counts_failures w.step now new later after why → ((why ≡ kinds.End) × (new.is_open ≡ true) → ⊥) → FindsNone s.kind s.heapless new.is_open committed why result → (why ≡ kinds.End → Reasoned s.kind new.is_open (SaysEnded s old.position committed) result) → Reasoned s.kind new.is_open says result
     unread_reasons kinds.End result x o p r = reasons_into s.kind new.is_open (SaysEnded s old.position committed) says result into (r refl)
       where
         ended : now.is_open ≡ false
@@ -88,7 +88,7 @@ module _ {P T R V S E : Type 0} (w : World P T S E) (s : Observers T R P E) (l :
     unread_reasons kinds.Read (PeekOk v) x o p r = absurd p.is
     unread_reasons kinds.Read (CommitErr e) x o p r = by_case p.is
       where
-        by_case : ((s.kind e ≡ kinds.Read) × (kinds.Read ≡ kinds.End → new.is_open ≡ false → committed ≡ true)) ⊎ ((s.kind e ≡ kinds.Memory) × (s.never_allocates → ⊥)) → Reasoned {V = V} s.kind new.is_open says (CommitErr e)
+        by_case : ((s.kind e ≡ kinds.Read) × (kinds.Read ≡ kinds.End → new.is_open ≡ false → committed ≡ true)) ⊎ ((s.kind e ≡ kinds.Memory) × (s.heapless → ⊥)) → Reasoned {V = V} s.kind new.is_open says (CommitErr e)
         by_case (inl y) = reasons_fault s.kind new.is_open says e kinds.Read y.0 tt
         by_case (inr y) = reasons_fault s.kind new.is_open says e kinds.Memory y.0 tt
     unread_reasons kinds.Read (PeekErr t) x o p r = let y = p.is.1 in absurd (cc)

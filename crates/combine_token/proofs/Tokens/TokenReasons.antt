@@ -23,10 +23,10 @@ module _ {P T R B E : Type 0} (s : Observers T R P E) (old new : View P T) where
   refused_token t us i x n b = reasons_peeked s.kind new.is_open (RefusesToken s old new) x (record { is = rw i n; back = b })
 
   -- the end was found
-  pub refused_end : old.unread ≡ [] → new ≡ old → (result : ParseResult B E) → NoToken s.kind s.never_allocates new.is_open kinds.End result → SaysEnd s old.position result → Reasoned s.kind new.is_open (RefusesToken s old new) result
+  pub refused_end : old.unread ≡ [] → new ≡ old → (result : ParseResult B E) → NoToken s.kind s.heapless new.is_open kinds.End result → SaysEnd s old.position result → Reasoned s.kind new.is_open (RefusesToken s old new) result
   refused_end i b (CommitOk v) h k = absurd h.is
   refused_end i b (PeekOk v) h k = absurd h.is
-  refused_end i b (CommitErr e) h k = reasons_unended s.kind s.never_allocates new.is_open (RefusesToken s old new) kinds.End e h refl
+  refused_end i b (CommitErr e) h k = reasons_unended s.kind s.heapless new.is_open (RefusesToken s old new) kinds.End e h refl
   refused_end i b (PeekErr t) h k = reasons_peeked s.kind new.is_open (RefusesToken s old new) t (record { is = rw i k.is; back = b })
 
   -- no token could be read

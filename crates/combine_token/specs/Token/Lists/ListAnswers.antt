@@ -43,11 +43,11 @@ pub record Mismatch {T R P E : Type 0} (s : Observers T R P E) (position : P) (t
   pub new : New s kinds.Refused position own
   pub says : AddsItems s (Unit {0}) (λ is. is ≡ Unexpected (OfToken token) ∷ expecting expected) own e
 
-module _ {V E : Type 0} (kind : E → Kind) (never_allocates : Type 0) (is_open committed : Bool) (why : Kind) where
+module _ {V E : Type 0} (kind : E → Kind) (heapless : Type 0) (is_open committed : Bool) (why : Kind) where
   abbrev pub finds_none : ParseResult V E → Type 0
   finds_none (CommitOk v) = ⊥
   finds_none (PeekOk v) = ⊥
-  finds_none (CommitErr e) = ((kind e ≡ why) × (why ≡ kinds.End → is_open ≡ false → committed ≡ true)) ⊎ ((kind e ≡ kinds.Memory) × (never_allocates → ⊥))
+  finds_none (CommitErr e) = ((kind e ≡ why) × (why ≡ kinds.End → is_open ≡ false → committed ≡ true)) ⊎ ((kind e ≡ kinds.Memory) × (heapless → ⊥))
   finds_none (PeekErr t) = (kind t.error ≡ kinds.End) × (why ≡ kinds.End) × (is_open ≡ false) × (committed ≡ false)
 
   -- a read gave no token: at the end of an ended list it is a refusal, unless an item of it found no memory

@@ -87,7 +87,7 @@ pub(super) fn no_more<O, Input: Stream>(
     position: Input::Position,
     input: &Input,
 ) -> ParseResult<O, Input::Error>
-    ensures finds { FindsNone Input.Error.observers.kind Input.Error.observers.never_allocates (Input.view input.now).is_open committed why result }
+    ensures finds { FindsNone Input.Error.observers.kind Input.Error.observers.heapless (Input.view input.now).is_open committed why result }
     ensures refuses { why ≡ Kind.End → Reasoned Input.Error.observers.kind (Input.view input.now).is_open (SaysEnded Input.Error.observers position committed) result }
 {
     match no_token::<O, Input>(input, why, position) {

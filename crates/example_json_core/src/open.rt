@@ -1,0 +1,105 @@
+//! What is open, and what comes of what is read there.
+
+use crate::grammar::{Item, is_number};
+use crate::node::{Document, Node};
+use crate::place::Place;
+use crate::texts::unescape;
+use combine::nested::{Frame, Next};
+use std::alloc::{AllocError, Global};
+
+/// What comes of what is open.
+type Then = Result<Next<Open, Document>, AllocError>;
+
+/// An array or an object that is open, or the whole. The innermost has the nodes of the document so far.
+#[derive(Drop)]
+pub struct Open {
+    alloc: Global,
+    /// What may come next.
+    pub place: Place,
+    nodes: Document,
+}
+
+impl Open {
+    /// Returns the whole, of which nothing was read.
+    pub fn new(alloc: Global) -> Open {
+        let nodes = Vec::new(alloc);
+        Open {
+            alloc,
+            place: Place::Whole,
+            nodes,
+        }
+    }
+
+    /// Goes on at this place, if there is one.
+    fn go_on(self, place: Option<Place>) -> Then {
+        match place {
+            Some(Place::End) => Ok(Next::Close(self.nodes)),
+            Some(place) => Ok(Next::Stay(Open { place, ..self })),
+            None => Ok(Next::Refuse(self.place.expected())),
+        }
+    }
+
+    /// Takes a comma, a colon or a bracket.
+    fn take_sign(mut self, sign: u8) -> Then {
+        let takes_value = !self.place.takes_name() && self.place.after().is_some();
+        let (node, place) = match (sign, self.place) {
+            (b'[', _) if takes_value => (Node::ArrayBegins, Some(Place::Array)),
+            (b'{', _) if takes_value => (Node::ObjectBegins, Some(Place::Object)),
+            (b']', Place::Array | Place::ElementEnd) => (Node::ArrayEnds, None),
+            (b'}', Place::Object | Place::ValueEnd) => (Node::ObjectEnds, None),
+            (_, place) => return self.go_on(place.after_sign(sign)),
+        };
+        self.nodes.push(node)?;
+        let Some(inside) = place else {
+            return Ok(Next::Close(self.nodes));
+        };
+        let around = Open {
+            place: self.place,
+            ..Open::new(self.alloc)
+        };
+        Ok(Next::Open(
+            around,
+            Open {
+                place: inside,
+                ..self
+            },
+        ))
+    }
+}
+
+impl Frame for Open {
+    type Item = Item;
+
+    type Value = Document;
+
+    #[inline(always)]
+    fn take(mut self, (bytes, sign): Item) -> Then {
+        let takes_name = self.place.takes_name();
+        let node = match bytes.as_slice() {
+            [] => return self.take_sign(sign.unwrap_or(0)),
+            [b'"', text @ .., _] => match unescape(self.alloc, text)? {
+                Ok(text) if takes_name => Node::Name(text),
+                Ok(text) => Node::Text(text),
+                Err(why) => return Ok(Next::Refuse(why)),
+            },
+            _ if takes_name => return self.go_on(None),
+            b"null" => Node::Null,
+            b"true" => Node::Bool(true),
+            b"false" => Node::Bool(false),
+            number if is_number(number) => Node::Number(bytes),
+            _ => return self.go_on(None),
+        };
+        self.nodes.push(node)?;
+        let place = self.place.after();
+        match (place, sign) {
+            (Some(place), Some(sign)) => self.go_on(place.after_sign(sign)),
+            _ => self.go_on(place),
+        }
+    }
+
+    #[inline(always)]
+    fn join(self, nodes: Document) -> Then {
+        let place = self.place.after();
+        Open { nodes, ..self }.go_on(place)
+    }
+}
