@@ -20,8 +20,8 @@ use combine::parser::{Answer, SessionError, parse_pieces};
 use combine::stream::Kind;
 use combine::stream::position::{self, SourcePosition};
 use combine::{
-    Function, Maker, Parser, Stream, between, eof, many, many1, optional, satisfy,
-    satisfy_map, sep_by, skip_many,
+    Function, Maker, Parser, Stream, between, eof, many, many1, optional, satisfy, satisfy_map,
+    sep_by, skip_many,
 };
 use std::alloc::Global;
 use std::marker::PhantomData;
