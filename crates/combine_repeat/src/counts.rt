@@ -20,7 +20,7 @@ pub mod types;
 use crate::bounds::{MinToMax, TurnBounds};
 use crate::each::{Dropped, Each, SameParser};
 pub use crate::turns::TurnsState;
-use crate::turns::{Collect, Gather, TurnProgress, take_turns};
+use crate::turns::{Collect, Gathers, TurnProgress, take_turns};
 use combine_base::error::{ErrorOffset, ParseResult, Tracked};
 use combine_base::parser::{Outputs, ParseMode, Parser};
 use combine_base::stream::{Kind, Positioned, Stream, StreamOnce};
@@ -64,13 +64,17 @@ fn without_room<O, Input: Stream, S: Default + Drop>(
     ParseResult::CommitErr(input.new_error(Kind::Memory, input.position()))
 }
 
-impl<Input, P: Outputs<Input>, G: Gather<P::Output>, B> Outputs<Input> for Repeat<G, P, B> {
-    type Output = G::Collection;
+impl<Input, G: Gathers, P, B> Outputs<Input> for Repeat<G, P, B> {
+    type Output = G::Into;
 }
 
-impl<Input: Stream, P: Parser<Input>, G: Collect<P::Output>, B: TurnBounds> Parser<Input>
-    for Repeat<G, P, B> {
-    type PartialState = TurnsState<G::Collection, P::PartialState>;
+impl<
+    Input: Stream,
+    P: Parser<Input>,
+    G: Gathers + Collect<P::Output, Collection = <G as Gathers>::Into>,
+    B: TurnBounds,
+> Parser<Input> for Repeat<G, P, B> {
+    type PartialState = TurnsState<G::Into, P::PartialState>;
 
     ghost lawful = { λ p. P.lawful (repeated_by p) };
 
@@ -94,7 +98,7 @@ impl<Input: Stream, P: Parser<Input>, G: Collect<P::Output>, B: TurnBounds> Pars
         mode: M,
         input: &mut Input,
         state: &mut Self::PartialState,
-    ) -> ParseResult<G::Collection, Input::Error> {
+    ) -> ParseResult<G::Into, Input::Error> {
         let Ok(empty) = self.gather.empty(self.bounds.room(mode.is_first())) else {
             return without_room(input, state);
         };

@@ -4,7 +4,7 @@ ghost use Rattle.combine_repeat.specs.Turns.SoundValues.{any_sound};
 ghost use Rattle.combine_repeat.specs.Turns.Turn.{from_start, gives_any, plain_is_turn, plain_once};
 ghost use Rattle.combine_repeat.specs.Repeat.RepeatParsers.{each_of, plain_parser};
 
-use crate::turns::{Collect, Gather, TurnParser};
+use crate::turns::{Collect, Gather, Gathers, TurnParser};
 use combine_base::error::{ParseResult, Tracked};
 use combine_base::parser::{ParseMode, Parser};
 use combine_base::repeat::Append;
@@ -85,6 +85,10 @@ impl<F> Each<F> {
     }
 }
 
+impl<F: Drop> Gathers for Each<F> {
+    type Into = F;
+}
+
 impl<A, F: Append<A>> Gather<A> for Each<F> {
     type Collection = F;
 
@@ -134,6 +138,10 @@ impl<A, F: Append<A>> Collect<A> for Each<F> {
 /// No value is kept.
 #[derive(Clone, Copy, Drop)]
 pub struct Dropped;
+
+impl Gathers for Dropped {
+    type Into = ();
+}
 
 impl<A: Drop> Gather<A> for Dropped {
     type Collection = ();

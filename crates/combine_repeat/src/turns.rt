@@ -94,6 +94,12 @@ pub trait TurnParser<Input: Stream> {
     ghost gives_only: { (p : Self) → lawful p → TurnsGive valid (meaning p) (again p) gives };
 }
 
+/// What values are gathered into, whatever these are. So the compiler finds the value of a repetition without that of its part.
+pub trait Gathers {
+    /// What they are gathered into.
+    type Into: Drop;
+}
+
 /// How the values of turns are gathered.
 pub trait Gather<A> {
     ghost use Rattle.std.specs.Prelude.{◌≡◌, Bool, MatchResult};
