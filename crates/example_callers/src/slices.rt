@@ -2,16 +2,17 @@
 ghost use Rattle.std.specs.Prelude.{◌≡◌};
 ghost use Rattle.std.specs.Char.{is_ascii_digit, is_ascii_lowercase};
 
-use combine::{Parser, UnexpectedParse, many1, satisfy, token};
+use combine::parser::byte;
+use combine::{Parser, UnexpectedParse, many1, token};
 use std::alloc::Global;
 
-/// `WORD=DIGITS;`, and what stands behind it.
+/// Parses `WORD=DIGITS;` and returns it with the rest of the input.
 pub fn setting(
     alloc: Global,
     input: &[u8],
 ) -> Result<((Vec<u8>, u8, Vec<u8>, u8), &[u8]), UnexpectedParse> {
-    let word = many1::<Vec<u8>, _>(alloc, satisfy(is_letter));
-    let digits = many1::<Vec<u8>, _>(alloc, satisfy(is_digit));
+    let word = many1::<Vec<u8>, _>(alloc, byte::lower());
+    let digits = many1::<Vec<u8>, _>(alloc, byte::digit());
     (word, token(b'='), digits, token(b';')).parse(input)
 }
 
