@@ -103,19 +103,19 @@ def is_whole(case):
 
 
 def unlisted(found, apart, document, title):
-    """Where the entries under a title of the document, the switches and the entries that are used are not the same."""
+    """Where the rows under a title of the document, the switches and the entries that are used are not the same."""
     listed = entries(document.read_text(), title)
     known = {switch.slug for switch in [*crate.SWITCHES, *crate.BETWEEN_VERSIONS]} | {TABLES, *wording.NAMES}
     used = {slug for difference in found for slug in difference.causes or ()} | ({TABLES} if any(apart.values()) else set())
-    yield from (f"{document.name} has no heading under '{title}': ### {slug}" for slug in sorted(known - listed))
+    yield from (f"{document.name} has no row under '{title}': `{slug}` | .." for slug in sorted(known - listed))
     yield from (f"diff/crate has no switch for the entry {slug}" for slug in sorted(listed - known))
     yield from (f"no difference needs the entry {slug}" for slug in sorted(known - used))
 
 
 def entries(text, title):
-    """The slugs of the headings `### slug` under a title."""
-    _, _, rest = text.partition(f"## {title}\n")
-    return set(re.findall(r"^### (\S+)$", rest.partition("\n## ")[0], re.MULTILINE))
+    """The slugs of the rows "`slug` | .." under a title."""
+    _, _, rest = text.partition(f"\n## {title}\n")
+    return set(re.findall(r"^`([\w-]+)` \| ", rest.partition("\n## ")[0], re.MULTILINE))
 
 
 def changed(stored, counted):
