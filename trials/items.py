@@ -100,7 +100,7 @@ class Reader:
                 closing.pop()
 
     def skip_to(self, *ends, angles=0):
-        """Passes over all up to one of these, outside of brackets, and of angles if asked, and returns it as it is written, without comments."""
+        """Passes over all tokens before one of these, outside of brackets (and of angles, if they count 1), and returns them as they are written, without comments."""
         start, depth = self.at, 0
         while not self.ends() and (depth > 0 or self.peek() not in ends):
             if self.peek() in CLOSES and self.tokens[self.at].kind == "mark":
@@ -128,14 +128,14 @@ def clean(line):
 
 
 def read_use(reader, public, module):
-    """A `use`, whose tree is spread out to paths."""
+    """A `use`, whose tree is spread into paths."""
     written = reader.skip_to(";")
     reader.take()
     spread(written.replace(" as ", "=").replace(" ", ""), [], public, module)
 
 
 def spread(tree, before, public, module):
-    """Puts the paths of a tree, as `a::{b, c::d}`, behind those before it into the module."""
+    """Adds the paths of a tree, as `a::{b, c::d}`, each after the path `before`, to what the module uses."""
     if tree.startswith("{"):
         for part in parts_of(tree[1:-1]):
             spread(part, before, public, module)
@@ -151,7 +151,7 @@ def spread(tree, before, public, module):
 
 
 def parts_of(text):
-    """What stands between the commas of a text that are outside of its brackets."""
+    """The parts of a text between those commas that are outside of brackets."""
     parts, depth, last = [], 0, ""
     for it in text:
         depth += (it in "([{<") - (it in ")]}" or (it == ">" and last != "-"))
@@ -184,7 +184,7 @@ def read_function(reader, item):
 
 
 def read_struct(reader, item):
-    """A struct, with those of its fields that are public."""
+    """A struct, with its fields; those of a tuple if all are public."""
     item.head = reader.skip_to("where", "{", "(", ";", angles=1)
     item.name = re.search(r"\bstruct (\w+)", item.head).group(1)
     if reader.peek() == "where":
@@ -205,7 +205,7 @@ def read_struct(reader, item):
 
 
 def read_group(reader, read):
-    """What `read` makes of what stands in brackets."""
+    """Returns what `read` makes of the tokens in brackets."""
     start = reader.at
     reader.skip_group()
     inside = Reader.__new__(Reader)
