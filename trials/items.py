@@ -1,10 +1,9 @@
-"""Reads the items of the library's sources, with their doc comments and without their clauses: for the scripts beside it.
+"""Reads the items of the library's sources, with their doc comments, for `trials/api` and `trials/examples`.
 
-A source is read token by token, and no more of it than these scripts ask for: modules, what `use` brings in, functions
-with their signatures, structs, enums, traits, impls, aliases and macros. What is tested alone is left out, and so is
-what is ghost, but for what an impl of a trait has to give.
+A source is read token by token, for modules, what `use` brings in, functions with their signatures, structs, enums,
+traits, impls, aliases and macros. Tests are left out, and so are clauses, bodies and ghost items.
 """
-import itertools, os, re
+import os, re
 from dataclasses import dataclass, field
 
 ROOT = os.path.realpath(f"{os.path.dirname(os.path.realpath(__file__))}/..")
@@ -43,11 +42,11 @@ class Item:
     doc: list
     file: str
     line: int
-    # a signature without clauses, the bounds of its `where`, and the names of its `requires`
+    # a signature without clauses, and the bounds of its `where`
     head: str = ""
     bounds: str = ""
-    requires: list = field(default_factory=list)
     members: list = field(default_factory=list)
+    # of an impl, whose name is that of its type
     trait: str = ""
 
 
@@ -60,10 +59,8 @@ class Module:
     public: bool = True
     items: list = field(default_factory=list)
     modules: dict = field(default_factory=dict)
-    # of each name that `use` brings in: the path, and whether it is public
-    uses: dict = field(default_factory=dict)
-    globs: list = field(default_factory=list)
-    number: int = 0
+    # what `use` brings in: the name, the path, and whether it is public
+    uses: list = field(default_factory=list)
 
     def root(self):
         return self.parent.root() if self.parent else self
@@ -103,7 +100,7 @@ class Reader:
                 closing.pop()
 
     def skip_to(self, *ends, angles=0):
-        """Passes over all up to one of these, outside of brackets, and of angles if asked, and returns it as it is written, without comments."""
+        """Passes over all tokens before one of these, outside of brackets (and of angles, if they count 1), and returns them as they are written, without comments."""
         start, depth = self.at, 0
         while not self.ends() and (depth > 0 or self.peek() not in ends):
             if self.peek() in CLOSES and self.tokens[self.at].kind == "mark":
@@ -131,14 +128,14 @@ def clean(line):
 
 
 def read_use(reader, public, module):
-    """A `use`, whose tree is spread out to paths."""
+    """A `use`, whose tree is spread into paths."""
     written = reader.skip_to(";")
     reader.take()
     spread(written.replace(" as ", "=").replace(" ", ""), [], public, module)
 
 
 def spread(tree, before, public, module):
-    """Puts the paths of a tree, as `a::{b, c::d}`, behind those before it into the module."""
+    """Adds the paths of a tree, as `a::{b, c::d}`, each after the path `before`, to what the module uses."""
     if tree.startswith("{"):
         for part in parts_of(tree[1:-1]):
             spread(part, before, public, module)
@@ -148,15 +145,13 @@ def spread(tree, before, public, module):
         spread(rest, [*before, first], public, module)
         return
     name, _, alias = first.partition("=")
-    if name == "*":
-        module.globs.append((before, public))
-    else:
+    if name != "*":
         path = before if name == "self" else [*before, name]
-        module.uses[alias or path[-1]] = (path, public)
+        module.uses.append((alias or path[-1], path, public))
 
 
 def parts_of(text):
-    """What stands between the commas of a text that are outside of its brackets."""
+    """The parts of a text between those commas that are outside of brackets."""
     parts, depth, last = [], 0, ""
     for it in text:
         depth += (it in "([{<") - (it in ")]}" or (it == ">" and last != "-"))
@@ -168,29 +163,20 @@ def parts_of(text):
     return [it.strip() for it in parts if it.strip()]
 
 
-def read_clauses(reader, item):
-    """The bounds and the names of the `requires` of a signature whose head was read."""
+def read_bounds(reader, item):
+    """The bounds of a signature whose head was read; its clauses are passed over."""
     if reader.peek() == "where":
         reader.take()
         item.bounds = reader.skip_to("requires", "ensures", "{", ";").strip().rstrip(",")
     while reader.peek() in ("requires", "ensures"):
-        word = reader.take().text
-        name = reader.skip_to("{").strip()
+        reader.skip_to("{")
         reader.skip_group()
-        if word == "requires":
-            item.requires.append(name)
 
 
 def read_function(reader, item):
-    start = reader.at
     item.head = reader.skip_to("where", "requires", "ensures", "{", ";")
     item.name = re.search(r"\bfn (\w+)", item.head).group(1)
-    read_clauses(reader, item)
-    end_of_body(reader)
-    assert reader.at > start
-
-
-def end_of_body(reader):
+    read_bounds(reader, item)
     if reader.peek() == "{":
         reader.skip_group()
     else:
@@ -198,7 +184,7 @@ def end_of_body(reader):
 
 
 def read_struct(reader, item):
-    """A struct, with those of its fields that are public."""
+    """A struct, with its fields; those of a tuple if all are public."""
     item.head = reader.skip_to("where", "{", "(", ";", angles=1)
     item.name = re.search(r"\bstruct (\w+)", item.head).group(1)
     if reader.peek() == "where":
@@ -219,7 +205,7 @@ def read_struct(reader, item):
 
 
 def read_group(reader, read):
-    """What `read` makes of what stands in brackets."""
+    """Returns what `read` makes of the tokens in brackets."""
     start = reader.at
     reader.skip_group()
     inside = Reader.__new__(Reader)
@@ -267,38 +253,28 @@ def read_enum(reader, item):
 def read_trait(reader, item):
     item.head = reader.skip_to("where", "{")
     item.name = re.search(r"\btrait (\w+)", item.head).group(1)
-    read_clauses(reader, item)
+    read_bounds(reader, item)
     item.members = read_group(reader, read_members)
 
 
 def read_impl(reader, item):
     item.head = reader.skip_to("where", "{")
-    read_clauses(reader, item)
+    read_bounds(reader, item)
     item.members = read_group(reader, read_members)
-    body = re.sub(r"^impl\s*", "", item.head)
-    if body.startswith("<"):
-        body = body[end_of_angles(body) :].strip()
-    trait, kind = split_for(body)
+    trait, kind = split_for(re.sub(r"^impl\s*", "", item.head))
     item.trait, item.name = trait, kind
 
 
-def end_of_angles(text):
-    depth = 0
-    for place, it in enumerate(text):
-        depth += {"<": 1, ">": -1}.get(it, 0) if text[place - 1 : place] != "-" else 0
-        if depth == 0:
-            return place + 1
-    return len(text)
-
-
-def split_for(text):
-    """The trait and the type of an impl's head; none where it has no trait."""
-    depth = 0
-    for place, it in enumerate(text):
-        depth += {"<": 1, ">": -1}.get(it, 0) if text[place - 1 : place] != "-" else 0
-        if depth == 0 and text.startswith(" for ", place):
-            return text[:place], text[place + 5 :]
-    return "", text
+def split_for(head):
+    """The trait and the type of an impl's head without `impl`; no trait if it has none."""
+    depth, start = 0, 0
+    for place, it in enumerate(head):
+        depth += {"<": 1, ">": -1}.get(it, 0) if head[place - 1 : place] != "-" else 0
+        if depth == 0 and head.startswith("<") and not start:
+            start = place + 1
+        if depth == 0 and head.startswith(" for ", place):
+            return head[start:place].strip(), head[place + 5 :]
+    return "", head[start:].strip()
 
 
 def read_members(reader):
@@ -368,11 +344,6 @@ def read_item(reader, module):
     public = read_visibility(reader)
     words = [it.text for it in reader.tokens[reader.at : reader.at + 3]]
     kind = next((it for it in words if it in READS), words[0])
-    if words[0] == "ghost" and words[1] != "use" and words[2] == ":":
-        item = Item("ghost", words[1], False, doc, reader.file, reader.line())
-        item.head = reader.skip_to(";")
-        reader.take()
-        return item
     if words[0] == "ghost":
         reader.skip_to(";")
         reader.take()
@@ -402,7 +373,7 @@ def read_module_item(reader, public, module, tested):
 
 
 def file_of(module, name):
-    """The file of a submodule: beside the root file, or in the folder that is named as the file round it."""
+    """The file of a submodule: beside the root file, or in the folder with the name of the module around it."""
     base = module.file.removesuffix(".rt")
     return f"{os.path.dirname(base) if base.endswith('/lib') else base}/{name}.rt"
 
@@ -414,13 +385,9 @@ def fill(reader, module):
             module.items.append(item)
 
 
-NUMBERS = itertools.count(1)
-
-
 def read_module(name, parent, public, file):
     reader = Reader(file)
     module = Module(name, parent, file, public=public)
-    module.number = next(NUMBERS)
     module.doc = [clean(it.text) for it in reader.tokens if it.kind == "inner"]
     fill(reader, module)
     return module
@@ -439,20 +406,15 @@ def read_crates(top):
 
 
 class Names:
-    """Finds what a path names: an item with its module, or a module."""
+    """Finds the items and the modules that a path names."""
 
     def __init__(self, crates):
         self.crates = crates
 
     def of_path(self, path, module, seen=()):
         first, rest = path[0], path[1:]
-        found = []
-        if first == "crate":
-            found = [module.root()]
-        elif first == "super":
-            found = [module.parent]
-        elif first == "self":
-            found = [module]
+        if first in ("crate", "super", "self"):
+            found = [{"crate": module.root(), "super": module.parent, "self": module}[first]]
         else:
             found = self.of_name(first, module, seen) or ([self.crates[first]] if first in self.crates else [])
         for name in rest:
@@ -464,37 +426,33 @@ class Names:
         if (name, module.path()) in seen:
             return []
         seen = (*seen, (name, module.path()))
-        found = [(it, module) for it in module.items if it.name == name and it.kind not in ("impl", "macro_rules")]
+        found = [it for it in module.items if it.name == name and it.kind not in ("impl", "macro_rules")]
         found += [module.modules[name]] if name in module.modules else []
         found += self.macro(name, module) if module.parent is None else []
-        if name in module.uses:
-            found += self.of_path(module.uses[name][0], module, seen)
-        return found
+        return found + [it for used, path, _ in module.uses if used == name for it in self.of_path(path, module, seen)]
 
     def macro(self, name, module):
-        here = [(it, module) for it in module.items if it.kind == "macro_rules" and it.name == name]
+        here = [it for it in module.items if it.kind == "macro_rules" and it.name == name]
         return here + [it for inside in module.modules.values() for it in self.macro(name, inside)]
 
-    def impls(self):
-        """Each impl, with the module that it stands in."""
+    def modules(self):
+        """Each module, after the one around it."""
         queue = list(self.crates.values())
-        while queue:
-            module = queue.pop(0)
+        for module in queue:
             queue += module.modules.values()
-            yield from ((it, module) for it in module.items if it.kind == "impl")
+        return queue
 
 
 def offered(names, module):
-    """The public names of a module, each with the module that it is named from, and with what it means."""
+    """The public names of a module, each with the item or the module that it means."""
     for name, inside in module.modules.items():
         if inside.public:
-            yield name, module, inside
+            yield name, inside
     for item in module.items:
         if item.public and item.kind != "macro_rules":
-            yield item.name, module, (item, module)
-    for name, (path, public) in module.uses.items():
+            yield item.name, item
+    for name, path, public in module.uses:
         if public:
-            source = next((it for it in names.of_path(path[:-1], module) if isinstance(it, Module) and it.public), module)
             targets = names.of_path(path, module)
-            macros = [it for it in targets if not isinstance(it, Module) and it[0].kind == "macro_rules"]
-            yield from ((name, source, it) for it in macros or targets)
+            macros = [it for it in targets if isinstance(it, Item) and it.kind == "macro_rules"]
+            yield from ((name, it) for it in macros or targets)
