@@ -70,8 +70,18 @@ def files_at(path):
     return found
 
 
-def key_of(names, paths=()):
-    """Returns what stands for the kit, and for the contents of these crates, of those below them, and of these files and folders."""
+def contents(file, with_comments):
+    """Returns a file's contents, of the sources of a crate perhaps without the lines that are comments."""
+    with open(file, "rb") as it:
+        found = it.read()
+    if with_comments or not file.endswith((".rt", ".rt.txt", ".antt")):
+        return found
+    mark = b"--" if file.endswith(".antt") else b"//"
+    return b"\n".join(line for line in found.split(b"\n") if not line.lstrip().startswith(mark))
+
+
+def key_of(names, paths=(), with_comments=False):
+    """Returns a digest of the kit, of the contents of these crates and those below them, and of these files and folders."""
     crates = {**listed(f"{ROOT}/crates.txt"), **crates_of_tests()}
     found = hashlib.sha256(version())
     files = [(it, f"{ROOT}/{it}") for path in paths for it in files_at(path)]
@@ -79,8 +89,7 @@ def key_of(names, paths=()):
         found.update(repr(crates[crate]).encode())
         files += [(f"{crate}/{path}", file) for path, file in sources(crate)]
     for path, file in files:
-        with open(file, "rb") as it:
-            found.update(f"{path}\n".encode() + hashlib.sha256(it.read()).digest())
+        found.update(f"{path}\n".encode() + hashlib.sha256(contents(file, with_comments)).digest())
     return found.hexdigest()[:40]
 
 
