@@ -106,7 +106,7 @@ impl<Input: Stream, P: Parser<Input>> Parser<Input> for Optional<P> {
         }
     }
 
-    /// Adds what the parser adds.
+    /// Adds the parser's items.
     fn add_error(&mut self, error: &mut Tracked<Input::Error>) {
         self.0.add_error(error)
     }
