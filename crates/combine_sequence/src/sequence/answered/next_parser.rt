@@ -46,7 +46,6 @@ impl<A, F: Function<A>> NextParser<A> for ByValue<F> {
     ghost keeps = { forget };
 
     #[inline(always)]
-    /// Returns `()`, since the value isn't kept, and the parser.
     fn ask(&self, value: A) -> ((), F::Output) {
         ((), self.0.call(value))
     }
@@ -70,7 +69,6 @@ impl<A: Drop, F: MutFunction<(), A>> NextParser<A> for ByMut<F> {
     ghost keeps = { forget };
 
     #[inline(always)]
-    /// Returns `()`, since the value isn't kept, and the parser.
     fn ask(&self, value: A) -> ((), F::Output) {
         let mut value = value;
         ((), self.0.call_mut((), &mut value))
@@ -95,7 +93,6 @@ impl<A, F: RefFunction<A>> NextParser<A> for ByRef<F> {
     ghost keeps = { keep_first };
 
     #[inline(always)]
-    /// Returns the value and the parser.
     fn ask(&self, value: A) -> ((A,), F::Output) {
         let parser = self.0.call_ref(&value);
         ((value,), parser)
