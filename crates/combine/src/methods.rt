@@ -173,7 +173,7 @@ pub trait ParserExt<Input: Stream>: Parser<Input> {
         error::expected(self, info)
     }
 
-    /// Removes the expected items from this parser's errors.
+    /// Removes the expected items from this parser's refusals.
     final fn silent(self) -> Silent<Self>
     where
         Self: Sized,

@@ -37,7 +37,7 @@ pub fn map<P, F, B>(p: P, f: F) -> Map<P, F, B>
     Map::new(p, f)
 }
 
-/// Parses as `p`, but every refusal is peeked, and the stream is put back to where the parser began.
+/// Parses as `p`, but every refusal is peeked and puts the stream back to where the parser began.
 ///
 /// # Errors
 ///

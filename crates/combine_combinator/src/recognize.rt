@@ -8,7 +8,7 @@ use std::alloc::Global;
 use std::marker::PhantomData;
 use types::Recognize;
 
-/// Parses as `parser`, and collects the tokens that it took, in order, in any `F: Append<Input::Token>`.
+/// Parses as `parser`, and returns the tokens that it took, collected in order in any `F: Append<Input::Token>`.
 ///
 /// To collect them the stream is put back to where the call began, and they are read again.
 ///

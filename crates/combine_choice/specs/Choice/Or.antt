@@ -115,7 +115,7 @@ module _ {P T R E V S S' : Type 0} (joins : E → E → E → Type 0) where
       refuses_from = reasons_same;
     }
 
--- two parsers have the same outcomes from the start, leave the same tokens unread, allocate alike, and add the same items to an error; their states may differ
+-- two parsers have the same outcomes from the start, leave tokens unread and allocate alike, and add the same items to an error; their states may differ
 pub record StartsSame {P T R E V S S' : Type 0} (m : Meaning P T R E V S) (m' : Meaning P T R E V S') : Type 0 where
   pub whole : ReadingsAgree m.whole m'.whole
   pub keeps : m.keeps ↔ m'.keeps

@@ -20,7 +20,7 @@ pub fn slice_is_array<'a, Input: Stream, P: Parser<Input>, const N: usize>(
 
 /// Law: a choice over a tuple of two means the same as over an array of the same parsers.
 ///
-/// They have the same outcomes from the start, leave the same tokens unread, allocate alike, and add the same items to an error.
+/// They have the same outcomes from the start, leave tokens unread and allocate alike, and add the same items to an error.
 pub fn tuple_2_is_array<Input: Stream, P: Parser<Input>>(a: &P, b: &P)
     ensures { StartsSame
         (⟦<(P, P) as ChoiceParser<Input>>⟧.meaning (a.now, b.now))

@@ -148,7 +148,7 @@ fn no_alternative<O, Input: Stream>(input: &Input) -> ParseResult<O, Input::Erro
     peeked(Tracked::from(error))
 }
 
-/// Returns the alternative of `count` to resume and its state.
+/// Returns which of `count` alternatives to resume, and its state.
 ///
 /// It is `Peek` if the call begins afresh, or if no alternative has the kept index.
 #[inline(always)]
