@@ -13,7 +13,7 @@ use std::marker::PhantomData;
 pub use text::StrLike;
 use types::{AndThen, FlatMap, FromStr, MapInput};
 
-/// Parses as `p`, and returns the `Ok` of `f` on its value, or refuses with its `Err` as an item.
+/// Parses as `p`, and returns the `Ok` of `f` for its value; an `Err` becomes an item of a refusal.
 ///
 /// `f: Fn(P::Output) -> Result<B, E>, E: Into<StreamError>`, or a `Function`; `StreamError` is that of `Input::Error`.
 ///
@@ -54,7 +54,7 @@ pub fn and_then<P, F, B>(p: P, f: F) -> AndThen<P, F, B>
     Changed::new(p, AndThenFn(f))
 }
 
-/// Parses as `p`, and returns the `Ok` of `f` on its value, or refuses with its `Err`, an error of the stream.
+/// Parses as `p`, and returns the `Ok` of `f` for its value; an `Err` is the error of a refusal.
 ///
 /// `f: Fn(P::Output) -> Result<B, Input::Error>`, or a `Function`.
 ///

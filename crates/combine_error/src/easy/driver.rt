@@ -24,7 +24,7 @@ where
     ///
     /// # Errors
     ///
-    /// The error has the unexpected token and the expected items. If there is no memory for an item, the error's kind is `Memory`.
+    /// The error has the unexpected item and the expected ones. If there is no memory for an item, the error's kind is `Memory`.
     ///
     /// # Differences from combine
     ///
