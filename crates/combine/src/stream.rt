@@ -1,4 +1,4 @@
-//! Streams, the input of parsers: slices and texts; `fed::Stream`, fed piece by piece; `position::Stream`, with a position; `span::Stream`, with spans; `easy::Stream`, whose errors keep items; `MaybePartialStream`, which may be open; and `Faulty`, which fails at a read or a reset.
+//! Streams, the input of parsers. Slices and texts are streams; `fed::Stream` is fed piece by piece, `position::Stream` has a position, `span::Stream` has spans, `easy::Stream` has errors that keep their items, `MaybePartialStream` may be open, and `Faulty` fails at a read or a reset.
 
 pub use combine_base::stream::{
     Failures, Kind, Left, Positioned, ResetStream, Stream, StreamOnce, asks_for_more, ends_open,

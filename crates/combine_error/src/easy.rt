@@ -1,4 +1,4 @@
-//! Errors that keep their items.
+//! Errors that keep their items, and streams with such errors.
 ghost use Rattle.std.specs.Prelude.{◌≡◌, ◌-◌, ◌<◌, not, ◌∷◌, [], true, length, map};
 ghost use Rattle.std.specs.List.{list_any};
 ghost use Rattle.combine_base.specs.Error.Errors.{Only, AddsItems};

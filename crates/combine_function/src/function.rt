@@ -7,7 +7,7 @@ pub mod types;
 use std::marker::PhantomData;
 use types::{Called, EnvParser, FnParser, WithEnv, WithoutEnv};
 
-/// Parses as the function `f` of the stream.
+/// Parses by calling `f` on the stream.
 ///
 /// `f: Fn(&mut Input) -> StdParseResult<O, Input>`, or a `MutFunction`.
 ///
@@ -39,7 +39,7 @@ pub fn parser<Input, F>(f: F) -> FnParser<Input, F>
     }
 }
 
-/// Parses as the function `f` of a clone of `env` and the stream, as `parser` does.
+/// Parses by calling `f` on a clone of `env` and the stream, as `parser` does.
 ///
 /// `f: Fn(E, &mut Input) -> StdParseResult<O, Input>, E: Clone`, or a `MutFunction`.
 ///
