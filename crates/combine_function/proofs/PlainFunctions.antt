@@ -1,4 +1,4 @@
--- a function that runs a parser from its start has one outcome if that parser has one, and allocates nothing if it allocates nothing
+-- a function that runs a parser from its start has one outcome if that parser has one, and allocates nothing if that parser allocates nothing
 use denote.Ref.{MutBor}
 use Rattle.std.specs.Fn.{Shared}
 use Rattle.std.proofs.Common.{ℕ, ◌≡◌, ◌⊎◌, inl, inr, Bool, true, false, length, arith, ap, sym, subst, ◌∙◌, length-drop}

@@ -132,7 +132,7 @@ module _ (levels : List Fixity) where
   reduces p (s ∷ xs) ss h a l = pops p s (xs ++ ss) h a.0 ∙ reduces p xs ss s.level a.1 l
 
 module _ {O V : Type 0} (levels : List Fixity) where
-  -- the shape after things of an expression at a level
+  -- the shape after the things of an expression at level q
   pub record FitsAtLevel (ts : List (Thing O V)) (ss : List Slot) (q : ℕ) : Type 0 where
     pub more : List Slot
     pub above : all_above levels q more
@@ -200,7 +200,7 @@ module _ {O V : Type 0} (levels : List Fixity) where
         let j = c.is in
         cc
 
-    -- none ends in place of an operand
+    -- no expression ends where an operand is awaited
     pub no_open_end : (ts : List (Thing O V)) (s : Shape) (w : V) → fits levels ts start ≡ Some s → s.held ≡ None → IsExpression levels changes joins 0 ts w → ⊥
     no_open_end ts s w e h x =
         let c : FitsAtLevel ts [] 0 = comes 0 ts w x 0 [] (omega arith) (omega arith) (omega arith) in

@@ -48,7 +48,7 @@ module _ {O V : Type 0} (levels : List Fixity) (changes : O → V → V → Type
   asked_at p ps ts None w = let l = slice_get_within levels p.level fixities.Prefix w.is_prefix in let e = w.asks in omega arith
   asked_at p ps ts (Some a) w = let k = sides_within (slice_get levels p.level) p.level (length levels) w.lowest (some_within (slice_get levels p.level) levels p.level w.lowest refl w.sides) w.sides in let e = w.asks in omega arith
 
-  -- an operand is of each level up to the lowest one
+  -- no operator requires a level above that of a single operand
   pub asked_within : (ps : List (Pending O V)) (ts : List (Thing O V)) → pends levels changes joins ps ts → asked_level ps ≤ length levels
   asked_within [] ts w = omega arith
   asked_within (p ∷ ps) ts w = asked_at p ps ts p.left w
@@ -120,7 +120,7 @@ behind_so (Some fixities.Left) a p e = absurd (cc)
 behind_so (Some fixities.Right) a p e = absurd (cc)
 behind_so (Some fixities.Neither) a p e = absurd (cc)
 
--- there is no waiting operator that requires a level
+-- without a waiting operator no level is required
 pub none_asked : {O V : Type 0} (xs : List (Pending O V)) (level : ℕ) → length xs ≡ 0 → level < asked_level (reverse xs) → ⊥
 none_asked [] level e l = omega arith
 none_asked (x ∷ xs) level e l = absurd (cc)

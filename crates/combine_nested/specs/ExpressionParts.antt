@@ -87,7 +87,7 @@ module _ {O V : Type 0} {N : ℕ} (changes : O → V → V → Type 0) (joins : 
   abbrev pub part_joins : Part O V N → V → Next (Part O V N) V → Type 0
   part_joins p v n = takes_thing p (Operand v) n
 
--- the function that makes the outermost part
+-- the maker of the outermost part
 pub record MakesOutermost {O V : Type 0} {N : ℕ} (alloc : Global) (levels : List Fixity) (made : Outermost O V N) : Type 0 where
   pub in_memory : made.alloc ≡ alloc
   pub has_levels : made.levels ≡ levels

@@ -4,7 +4,7 @@ use Rattle.std.specs.Prelude.Option.{Some}
 use Rattle.combine_nested.specs.declared.expression.Fixity.{Fixity}
 use Rattle.combine_nested.specs.declared.expression.Fixity.TheVariants as fixities
 
--- the elements of an expression: an operator has its level, and a part in brackets is an operand
+-- the elements of an expression; an operator has its level, and a part in brackets is an operand
 pub data Thing (O V : Type 0) : Type 0 where
   Operand : (value : V) → Thing O V
   Prefix : (level : ℕ) (operator : O) → Thing O V

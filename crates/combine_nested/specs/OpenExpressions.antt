@@ -117,7 +117,7 @@ module _ {O V : Type 0} {N : ℕ} (changes : O → V → V → Type 0) (joins : 
     pub fits : fit_in from t ≡ Some (shape_of to)
     pub stands : (ts : List (Thing O V)) → StandsIn from ts → StandsIn to (ts ++ t ∷ [])
 
-  -- no expression begins with the things read and this thing; the message of that
+  -- no expression begins with the things read and this thing; the message is that of a misfit
   pub record Misfits (from : Operands O V N) (t : Thing O V) (message : List ℕ) : Type 0 where
     pub misfits : fit_in from t ≡ None
     pub none : (ts us : List (Thing O V)) (w : V) → StandsIn from ts → IsExpression from.levels changes joins 0 (ts ++ t ∷ us) w → ⊥
@@ -128,7 +128,7 @@ module _ {O V : Type 0} {N : ℕ} (changes : O → V → V → Type 0) (joins : 
     pub holds : is_some from.held ≡ true
     pub is_expression : (ts : List (Thing O V)) → StandsIn from ts → IsExpression from.levels changes joins 0 ts v
 
-  -- the things read are no expression; the message of that
+  -- the things read are no expression, since an operand is awaited; the message is that of an early end
   pub record EndsEarly (from : Operands O V N) (message : List ℕ) : Type 0 where
     pub awaits : from.held ≡ None
     pub none : (ts : List (Thing O V)) (w : V) → StandsIn from ts → IsExpression from.levels changes joins 0 ts w → ⊥
@@ -186,6 +186,6 @@ module _ {O V : Type 0} (refuses_operand : O → V → List ℕ → Type 0) (ref
     abbrev pub refuses_before : Thing O V → List ℕ → Type 0
     refuses_before = refused_before changes joins from.levels (StandsIn changes joins from)
 
-    -- or before the end
+    -- or at the end
     abbrev pub refuses_at_end : List ℕ → Type 0
     refuses_at_end = WaitingRefuses changes joins from.levels (StandsIn changes joins from) (λ _. Unit {0})
