@@ -171,7 +171,7 @@ value_kind kinds.Read = kinds.Refused
 value_kind kinds.Reset = kinds.Refused
 value_kind kinds.Lost = kinds.Refused
 
--- a function returns an error whose value is refused with this kind
+-- a function returns an error for which the value is refused with this kind
 pub record AnsweredKind {A B E : Type 0} (kind : E → Kind) (post : A → Result B E → Type 0) (why : Kind) (a : A) : Type 0 where
   pub error : E
   pub met : post a (Err error)
