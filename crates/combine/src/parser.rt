@@ -1,4 +1,4 @@
-//! The protocol of parsers, and their constructors by module.
+//! `Parser` and its drivers, and the constructors by module.
 
 pub mod byte;
 pub mod choice;

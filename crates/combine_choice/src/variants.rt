@@ -1,4 +1,4 @@
-//! Parsers that are one of several, each of which means the one that it holds.
+//! `Either`, and the types of `dispatch!`.
 
 pub mod either;
 

@@ -1,4 +1,4 @@
--- the parsers of these alternatives
+-- the parser of some alternatives
 use Rattle.combine_choices.specs.declared.choice.types.Choice.{Choice}
 
 abbrev pub choice_parser : {X : Type 0} → X → Choice X

@@ -1,4 +1,4 @@
-//! Parsers made of one parser.
+//! Parsers made of one parser: `combinator`, `recognize`, `lazy` and `factory`.
 #![tactic(auto)]
 
 mod collecting;

@@ -1,4 +1,4 @@
-//! Errors that people can read, and the parsers that change them.
+//! Errors with readable items, streams with them or with spans, and parsers that change errors.
 #![tactic(auto)]
 
 pub mod easy;

@@ -10,27 +10,27 @@ use combine_base::stream::{self, Failures, Kind, Positioned, ResetStream, Stream
 use combine_stream::Unfailing;
 use combine_stream::range::{Range, RangeStream};
 
-/// A part of the input, from a position to another.
+/// A part of the input, from one position to another.
 ///
-/// The order is that of `start`, and then that of `end`.
+/// Spans are ordered by `start`, then by `end`.
 #[derive(Clone, Copy, Debug, PartialEq, Eq, PartialOrd, Ord)]
 pub struct Span<P> {
-    /// Where it begins.
+    /// The position where it begins.
     pub start: P,
-    /// Where it ends.
+    /// The position where it ends.
     pub end: P,
 }
 
-/// The errors that can stand at a span.
+/// Errors that can be at a span.
 ///
-/// In the crate they are those that turn into an error at any other position.
+/// In combine they are those that convert into an error at any other position.
 pub trait SpannedError<T, R, P: Ord + Copy>: ParseError<T, R, P> {
-    /// The error at a span.
+    /// The error's type at a span.
     type Spanned: DetailedError<T, R, Span<P>>;
 
-    /// Makes the same error, at that span.
+    /// Returns the same error, at a span.
     ///
-    /// The kind and the items stay.
+    /// The kind and the items are unchanged.
     fn at_span(self, span: Span<P>) -> Self::Spanned
         ensures { AtSpan Self.observers Self.Spanned.observers span self result };
 }
@@ -67,7 +67,7 @@ impl<T: Copy + PartialEq, R: Copy + PartialEq, P: Ord + Copy> SpannedError<T, R,
     }
 }
 
-/// A stream whose position is the span that begins and ends where the stream inside stands.
+/// A stream whose position is the span that begins and ends at the position of the stream inside.
 ///
 /// Its errors are those of the stream inside, at spans.
 #[derive(Drop)]

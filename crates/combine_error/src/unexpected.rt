@@ -1,4 +1,4 @@
-//! Parsers that always refuse.
+//! `unexpected` and `unexpected_any`, which always refuse.
 ghost use Rattle.std.specs.Prelude.{◌≡◌};
 ghost use Rattle.combine_error.specs.Unexpected.{unexpected_of};
 
@@ -11,11 +11,11 @@ use types::Unexpected;
 
 /// Refuses everywhere, peeked, and reads nothing.
 ///
-/// Its value would be `()`.
+/// The type of its value is `()`.
 ///
 /// # Errors
 ///
-/// They say that this was not expected.
+/// They have the given item as unexpected.
 ///
 /// # Examples
 ///
@@ -34,7 +34,7 @@ pub fn unexpected<Input: StreamOnce, S: Into<Info<Input::Token, Input::Range>>>(
     unexpected_any(message)
 }
 
-/// Refuses as `unexpected` does, with whatever value the place asks for.
+/// Refuses as `unexpected` does, with any type of value.
 pub fn unexpected_any<Input: StreamOnce, S: Into<Info<Input::Token, Input::Range>>, V>(
     message: S,
 ) -> Unexpected<Input, V, Info<Input::Token, Input::Range>>

@@ -1,4 +1,4 @@
-//! Parsers of ranges: parts of the input, as they stand there.
+//! Parsers of ranges: parts of the input, without a copy.
 
 pub mod laws;
 pub mod types;

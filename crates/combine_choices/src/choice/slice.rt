@@ -19,12 +19,12 @@ use std::mem::replace;
 
 /// The running alternative of a choice over a slice or an array, and its state.
 ///
-/// A choice makes it by `Default`, which is `Peek`, and keeps an alternative in it on need of more alone. An index past the last alternative is the beginning.
+/// The default is `Peek`. A choice keeps an alternative only on need of more. An index past the last alternative is the beginning.
 #[derive(Drop)]
 pub enum SliceState<S> {
-    /// No alternative runs.
+    /// No alternative is running.
     Peek,
-    /// The alternative at that index runs, from that state.
+    /// The alternative at this index is running, from this state.
     At { index: usize, state: S },
 }
 
@@ -40,13 +40,11 @@ impl<S> Default for SliceState<S> {
 
 /// The alternatives of a slice, for a choice.
 ///
-/// In the crate the slice itself is a choice.
+/// In combine the slice itself is a choice.
 #[derive(Drop)]
 pub struct Slice<'a, P>(pub &'a mut [P]);
 
-/// Runs the alternative at an index, which goes on, or begins.
-///
-/// On need of more it is kept in `state`.
+/// Runs the alternative at an index from its state, which is kept in `state` on need of more.
 #[inline(always)]
 fn try_alternative<Input: Stream, P: Parser<Input>, M: ParseMode>(
     alternative: &mut P,
@@ -74,7 +72,7 @@ fn try_alternative<Input: Stream, P: Parser<Input>, M: ParseMode>(
     answer
 }
 
-/// Runs the alternatives from that index on, the first of them from that state, the later ones afresh.
+/// Runs the alternatives from an index on, the first of them from its state, the later ones from the start.
 #[inline(always)]
 fn choose<Input: Stream, P: Parser<Input>, M: ParseMode>(
     alternatives: &mut [P],
@@ -123,7 +121,7 @@ fn choose<Input: Stream, P: Parser<Input>, M: ParseMode>(
     ParseResult::PeekErr(refused)
 }
 
-/// Runs the alternatives as `choose` does, in a call that resumes: apart from the code of calls that begin afresh, which holds the loop once.
+/// Calls `choose` where a call resumes; as a function of its own it keeps that copy out of the code of calls that begin afresh, with the loop once.
 fn resume<Input: Stream, P: Parser<Input>, M: ParseMode>(
     alternatives: &mut [P],
     index: usize,
@@ -142,7 +140,7 @@ fn resume<Input: Stream, P: Parser<Input>, M: ParseMode>(
     choose(alternatives, index, mode, input, kept, state)
 }
 
-/// Refuses a choice among no alternatives.
+/// Refuses a choice with no alternatives.
 fn no_alternative<O, Input: Stream>(input: &Input) -> ParseResult<O, Input::Error>
     ensures { NoAlternative Input.Error.observers (Input.view input.now).position result }
 {
@@ -150,9 +148,9 @@ fn no_alternative<O, Input: Stream>(input: &Input) -> ParseResult<O, Input::Erro
     peeked(Tracked::from(error))
 }
 
-/// Returns which of `count` alternatives a call goes on with, and its state.
+/// Returns which of `count` alternatives to resume, and its state.
 ///
-/// That is `Peek` where the call begins afresh, also where no alternative has that index.
+/// It is `Peek` if the call begins afresh, or if no alternative has the kept index.
 #[inline(always)]
 fn running<S: Drop, M: ParseMode>(kept: SliceState<S>, count: usize, mode: M) -> SliceState<S>
     ensures { ResumesAlternative (M.first mode) kept count result }
@@ -210,7 +208,7 @@ fn parse_slice<Input: Stream, P: Parser<Input>, M: ParseMode>(
     }
 }
 
-/// Adds to an error what the alternatives add, in order.
+/// Adds each alternative's items to an error, in order.
 fn add_errors<Input: Stream, P: Parser<Input>>(
     alternatives: &mut [P],
     error: &mut Tracked<Input::Error>,
@@ -269,7 +267,7 @@ impl<Input, P: Outputs<Input>, const N: usize> ChoiceOutputs<Input> for [P; N] {
     type Output = P::Output;
 }
 
-/// An array is parsed as the slice of its alternatives.
+/// An array has the meaning of the slice of its alternatives.
 impl<Input: Stream, P: Parser<Input>, const N: usize> ChoiceParser<Input> for [P; N] {
     ghost use Rattle.std.specs.List.{All};
     ghost use Rattle.combine_base.specs.Parser.Meaning.{IsMeaning, MeansOne};

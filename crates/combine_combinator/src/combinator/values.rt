@@ -9,27 +9,27 @@ use combine_base::parser::{Outputs, ParseMode, Parser};
 use combine_base::stream::Stream;
 use std::marker::PhantomData;
 
-/// What is kept of a value.
+/// A choice of the part of a value to keep.
 pub trait Pick<A> {
-    /// What is kept.
+    /// The type of the part.
     type Output: Drop;
 
-    /// What is kept of that value.
+    /// The part of a value.
     ghost picked: { A → Self.Output };
 
-    /// How many parsers a parser that keeps this counts as, by the count of its part.
+    /// The count of a parser that keeps this part, by the count of the parser inside.
     ghost counted: { ℕ → ℕ };
 
-    /// Returns what is kept of the value.
+    /// Returns the part of the value.
     fn pick(value: A) -> Self::Output
         ensures { result ≡ picked value };
 
-    /// Returns how many parsers a parser that keeps this counts as, by the count of its part.
+    /// Returns the count of a parser that keeps this part, by the count of the parser inside.
     fn count(inside: ErrorOffset) -> ErrorOffset
         ensures { result.0 ≡ counted inside.0 };
 }
 
-/// A parser of whose part's value `W` says what is kept, a `B`; the state is that of the part.
+/// A parser whose value is the part of another's value that `W` picks, a `B`; the state is that of the other.
 #[derive(Drop)]
 #[derive_where(Clone, Copy; P)]
 pub struct Picked<P, W, B> {
@@ -39,7 +39,7 @@ pub struct Picked<P, W, B> {
 }
 
 impl<P, W, B> Picked<P, W, B> {
-    /// Makes the parser of this part.
+    /// Makes the parser of a part.
     #[inline]
     pub fn new(part: P) -> Self
         ensures { result ≡ picked_of part }
@@ -52,7 +52,7 @@ impl<P, W, B> Picked<P, W, B> {
     }
 }
 
-/// Nothing is kept of a value.
+/// Keeps nothing of a value.
 #[derive(Clone, Copy, Drop)]
 pub struct Nothing;
 
@@ -116,7 +116,7 @@ impl<Input: Stream, P: Parser<Input>, B: Drop, W: Pick<P::Output, Output = B>> P
         }
     }
 
-    /// Adds what the parser adds of whose value a part is kept.
+    /// Adds the items of the parser inside.
     #[inline]
     fn add_error(&mut self, error: &mut Tracked<Input::Error>) {
         self.part.add_error(error);

@@ -1,4 +1,4 @@
-//! What repetitions mean, and what they mean beside one another.
+//! Laws of repetitions: their meanings, and equal ones.
 
 pub use combine_repeat::counts::laws::{
     count_min_max_is_turns, skip_count_min_max_is_count_min_max_dropped,
