@@ -20,7 +20,7 @@ is_accepted (Accepted v n k) = true
 is_accepted (Refused k) = false
 is_accepted Undecided = false
 
--- the line of an answer, and whether it accepts
+-- the line of an `Answer`, and whether it accepts
 abbrev pub answer_line : {E : Type 0} → Answer Message E → List ℕ
 answer_line answers.More = []
 answer_line (answers.Accepted m taken committed) = accepted_line m taken
