@@ -206,7 +206,7 @@ def whole_number(name):
 
 
 def after(count, committed, outcome):
-    """An outcome further on in a list, after so many tokens and this commitment."""
+    """An outcome further on in a list, after `count` tokens and this commitment."""
     if outcome[0] == "accepted":
         return ("accepted", outcome[1], count + outcome[2], committed or outcome[3])
     if outcome[0] == "refused":
@@ -215,7 +215,7 @@ def after(count, committed, outcome):
 
 
 def sequence(parsers, collect):
-    """One after the other; the first that is not accepted gives the outcome."""
+    """Parsers one after the other; the first that doesn't accept decides the outcome."""
 
     def parse(tokens, open_):
         values, count, committed = [], 0, False
@@ -327,7 +327,7 @@ def turns(parse, collect, least, is_last=lambda value: False):
 
 
 def counted(parse, collect, least, most):
-    """At most so many blocks, empty ones too; refused where a peeked refusal comes before the minimum."""
+    """At most `most` blocks, empty ones too; refused where a peeked refusal comes before the minimum."""
 
     def parse_counted(tokens, open_):
         values, count, committed = [], 0, False

@@ -135,7 +135,7 @@ def read_use(reader, public, module):
 
 
 def spread(tree, before, public, module):
-    """Adds the paths of a tree, as `a::{b, c::d}`, each after the path `before`, to what the module uses."""
+    """Adds the paths of a tree, as `a::{b, c::d}`, each after the path `before`, to the module's imports."""
     if tree.startswith("{"):
         for part in parts_of(tree[1:-1]):
             spread(part, before, public, module)

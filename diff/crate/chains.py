@@ -62,7 +62,7 @@ class Chainr1(Parser):
         return result
 
     def chain(self, turn, room, window):
-        """The operands from here on, with so many more nested; `turn` is the place where the turn began."""
+        """The operands from here on, with at most `room` more nested; `turn` is the place where their turn began, or none."""
         parser, operator = self.alternatives
         left = self.lazy(parser, window)
         if not left.accepted:

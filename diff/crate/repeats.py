@@ -110,7 +110,7 @@ class SkipMany1(Skipping, Many1):
 
 
 class CountMinMax(Many):
-    """At most so many turns. With `COUNTS`, whether an earlier turn committed is kept."""
+    """At most `most` turns. With `COUNTS`, whether an earlier turn committed is kept."""
 
     def __init__(self, switches, parts):
         *numbers, parser = parts

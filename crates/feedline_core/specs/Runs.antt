@@ -45,7 +45,7 @@ IsWantOfMemory errors.Closed = ⊥
 IsWantOfMemory errors.Failed = ⊥
 
 module _ {S : Type 0} (r : Reading ℕ ℕ Message) (kept : S → Reading ℕ ℕ Message) where
-  -- Of these bytes so many are unread, and the others taken: a state exists whose meaning on the unread bytes and any further ones is that of the whole on all.
+  -- `unread` of the fed bytes are unread, and the others taken: a state exists whose meaning on the unread bytes and any further ones is that of the whole on all.
   pub record LeavesBytes (fed : List ℕ) (unread : ℕ) : Type 0 where
     pub state : S
     pub taken : ℕ
@@ -58,7 +58,7 @@ module _ {S : Type 0} (r : Reading ℕ ℕ Message) (kept : S → Reading ℕ �
   leaves_bytes fed before [] (u ∷ us) = ⊥
   leaves_bytes fed before (p ∷ ps) (u ∷ us) = (u ≤ before + length p) × LeavesBytes (fed ++ p) u × leaves_bytes (fed ++ p) u ps us
 
--- Each piece that is fed fits, with the bytes that are unread before it: those that need more and leave so many unread, and the next one, if there is one.
+-- Each piece that is fed fits, with the bytes that are unread before it: the pieces that need more and leave these numbers unread, and the next one, if there is one.
 abbrev pub pieces_fit : Option ℕ → ℕ → List (List ℕ) → List ℕ → Type 0
 pieces_fit limit before [] us = Unit {0}
 pieces_fit limit before (p ∷ ps) [] = admits limit (before + length p) ≡ true

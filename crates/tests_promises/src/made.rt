@@ -51,7 +51,7 @@ fn the_first<Input>(_input: &mut Input) -> OrPutBack<Input>
     Either::Left(any())
 }
 
-/// A parser keeps where the returned one does, though another of its type would not.
+/// A parser keeps its tokens if the returned one does, though another of its type would not.
 fn answered_so<Input: Stream<Token = u8>>()
 where
     Input::Error: ParseError<u8, Input::Range, Input::Position>,

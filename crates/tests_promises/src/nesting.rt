@@ -73,7 +73,7 @@ fn lexeme_of(byte: u8) -> Option<Item<Plus, u8>> {
     })
 }
 
-/// An expression's memory isn't the caller's, so it promises no more.
+/// The frames of an expression aren't the caller's, so no more is promised.
 fn sums<Input: Stream<Token = u8>>(alloc: Global)
 where
     Input::Error: ParseError<u8, Input::Range, Input::Position>,
