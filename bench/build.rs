@@ -1,4 +1,4 @@
-//! Links our static library, where `COMBINE_BENCH_LIBRARY` names it, and `COMBINE_BENCH_HEAP`, what it allocates with;
+//! Links our static library, if `COMBINE_BENCH_LIBRARY` names it, and its allocator, `COMBINE_BENCH_HEAP`;
 //! writes `ours.rs`, a call for each of its exports `combine_bench_NAME`.
 
 use std::fmt::Write;
@@ -28,7 +28,7 @@ fn link(library: &str) {
     println!("cargo:rustc-link-lib=static={name}");
 }
 
-/// What stands behind `combine_bench_` in the library's exports.
+/// Returns the names of the library's exports, without `combine_bench_`.
 fn exports(library: &str) -> Vec<String> {
     let found = Command::new("nm").args(["-g", "--defined-only", library]).output().expect("nm, of binutils");
     let text = String::from_utf8(found.stdout).unwrap();

@@ -40,7 +40,7 @@ def cuts(tokens):
             yield "/".join(tokens[begin:end] for begin, end in zip(ends, ends[1:])) + "."
 
 
-# Tokens that stand for bytes of whole numbers.
+# Tokens for bytes of whole numbers.
 BYTES = {"N": 0x00, "S": 0x7F, "H": 0x80, "F": 0xFF}
 NUMBERS = [f"{order}_{sign}{8 * size}" for sign in "ui" for size in (2, 4, 8) for order in ("be", "le")]
 RANGES = {
@@ -56,7 +56,7 @@ def reads_ranges(parser):
 
 
 def size_of(number):
-    """How many bytes the whole number of `be_u16` has."""
+    """The number of bytes of a whole number, as `be_u16`."""
     return int(number[4:]) // 8
 
 
@@ -68,7 +68,7 @@ def number(name, tokens):
 
 
 def numbers(size):
-    """Bytes of a whole number: each that is on an edge in each place, others before and behind it, and one too few."""
+    """Bytes of a whole number: each edge in each place, others before and after it, and one too few."""
     rests = [(byte,) * (size - 1) for byte in "NF"]
     edges = {(*rest[:at], byte, *rest[at:]) for byte in "NSHF" for rest in rests for at in range(size)}
     letters = "abcSHabc"[:size]
@@ -92,7 +92,7 @@ def cases_of(parser):
 
 
 TEXTS = HERE / "texts.list"
-# So long are the inputs of which errors are compared.
+# The longest inputs whose errors are compared.
 LONGEST_TEXT = 3
 
 
@@ -101,7 +101,7 @@ def texts():
 
 
 def sayings():
-    """The whole inputs of which it is compared what errors say."""
+    """The whole inputs whose errors are compared."""
     return [f"says {parser} {tokens}." for parser in parsers(TEXTS) for tokens in texts()]
 
 

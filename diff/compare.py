@@ -1,4 +1,4 @@
-"""Compares answers, the crate's and ours, and names each difference by its causes."""
+"""Compares results, the crate's and ours, and names each difference by its causes."""
 
 import collections
 import dataclasses
@@ -14,13 +14,13 @@ FAILURES = ("endless", "panic")
 
 @dataclasses.dataclass
 class Compared:
-    """The answers to a case: the crate's, as Debian has it and by the rule of 4.6.9, and ours."""
+    """The results of a case: the crate's, as in Debian and by the rules of 4.6.9, and ours."""
 
     case: str
     debian: str
     latest: str
     ours: str
-    # The slugs of the entries that explain together why they differ; none where nothing does.
+    # The keys of the rows that together explain the difference; none where nothing does.
     causes: tuple | None
 
     def parser(self):
@@ -33,7 +33,7 @@ class Compared:
         return "NO ENTRY" if self.causes is None else "+".join(self.causes)
 
     def line(self):
-        """The answer, or both with the entries; that of 4.6.9 where it is another than Debian's."""
+        """The result, or both with the keys; that of 4.6.9 where it differs from Debian's."""
         if not self.differs():
             return f"{self.case} = {self.ours}"
         latest = "" if self.latest == self.debian else f", 4.6.9: {self.latest}"
@@ -50,7 +50,7 @@ def compare(case, debian, ours):
 
 
 def causes(compared):
-    """The fewest switches that turn the answer of 4.6.9 into ours; where none is needed, those between the versions."""
+    """The fewest switches that turn the result of 4.6.9 into ours; where none is needed, those between the versions."""
     if crate.answer(compared.case, crate.DEBIAN) != compared.debian:
         return None
     if compared.latest == compared.ours:
@@ -59,7 +59,7 @@ def causes(compared):
 
 
 def fewest(case, on, switches, answer):
-    """The fewest of these switches that give an answer, beside those that are on."""
+    """The fewest of these switches that give a result, beside those that are on."""
     slugs = [switch.slug for switch in switches if switch.concerns(case)]
     for number in range(1, len(slugs) + 1):
         for chosen in itertools.combinations(slugs, number):
@@ -68,11 +68,11 @@ def fewest(case, on, switches, answer):
     return None
 
 
-# ---- what is to be complained of
+# ---- complaints
 
 
 def unmodelled(debian):
-    """Answers of the crate that its model does not give."""
+    """Results of the crate that its model does not give."""
     for case, answer in debian.items():
         if case.startswith("says "):
             continue
@@ -103,7 +103,7 @@ def is_whole(case):
 
 
 def unlisted(found, apart, document, title):
-    """Where the rows under a title of the document, the switches and the entries that are used are not the same."""
+    """Where the rows under a title of the document, the switches and the used keys are not the same."""
     listed = entries(document.read_text(), title)
     known = {switch.slug for switch in [*crate.SWITCHES, *crate.BETWEEN_VERSIONS]} | {TABLES, *wording.NAMES}
     used = {slug for difference in found for slug in difference.causes or ()} | ({TABLES} if any(apart.values()) else set())
@@ -113,13 +113,13 @@ def unlisted(found, apart, document, title):
 
 
 def entries(text, title):
-    """The slugs of the rows "`slug` | .." under a title."""
+    """The keys of the rows "`key` | .." under a title."""
     _, _, rest = text.partition(f"\n## {title}\n")
     return set(re.findall(r"^`([\w-]+)` \| ", rest.partition("\n## ")[0], re.MULTILINE))
 
 
 def changed(stored, counted):
-    """Numbers that are not what is stored."""
+    """Numbers that differ from the stored ones."""
     for name in sorted(stored.keys() | counted.keys()):
         before, now = stored.get(name, 0), counted.get(name, 0)
         if before != now:
@@ -128,7 +128,7 @@ def changed(stored, counted):
 
 # ---- classes
 
-# The entry that excuses what other tables of Unicode say of these classes.
+# The key that excuses other tables of Unicode for these classes.
 TABLES = "letters-of-the-kits-tables"
 BY_TABLES = ["char::upper", "char::lower", "char::letter", "char::alpha_num"]
 
@@ -145,7 +145,7 @@ def of_other_tables(debian, ours):
 
 
 def misclassified(apart):
-    """Tokens that one side alone has of a class that no tables decide."""
+    """Tokens that one side alone has, of a class that doesn't depend on Unicode's tables."""
     for case, tokens in apart.items():
         if tokens and case.removeprefix("class ") not in BY_TABLES:
             yield f"not the crate's: {case} in {', '.join(f'{token:x}' for token in sorted(tokens)[:8])}"
@@ -155,7 +155,7 @@ def misclassified(apart):
 
 
 def counts(wanted, found, apart):
-    """How many cases there are, and how many differences of each name; of classes, how many tokens."""
+    """How many cases there are, and how many differences of each name; for classes, how many tokens."""
     numbers = collections.Counter(difference.name() for difference in found)
     numbers[TABLES] = sum(len(tokens) for tokens in apart.values())
     return {"cases": len(wanted)} | dict(sorted(numbers.items()))
@@ -168,7 +168,7 @@ def read_counts(path):
     return {name: int(number) for number, name in (line.split() for line in lines)}
 
 
-# ---- what is shown
+# ---- the output
 
 
 def shortness(case):
@@ -189,7 +189,7 @@ def by_name(found):
 
 
 def table(shown, with_names=False):
-    """Lines of columns: the case, the answers, the entries."""
+    """Lines of columns: the case, the results, the keys."""
     rows = [("case", "4.6.6", "4.6.9", "ours", "entries")]
     rows += [(it.case, it.debian, it.latest, it.ours, it.name()) for it in shown]
     return columns(rows if with_names else [row[:-1] for row in rows])

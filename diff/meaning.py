@@ -1,7 +1,7 @@
-"""What a parser means: its outcome on a list of tokens, ended or open, written down as the equations say it.
+"""The meaning of parsers: their outcome on a list of tokens, ended or open, by the equations.
 
-Our program's answers are checked against it. An outcome is one of ('accepted', value, count, committed),
-('refused', committed) and ('undecided',); a value is the text that is shown.
+Our program's results are checked against it. An outcome is one of ('accepted', value, count, committed),
+('refused', committed) and ('undecided',); a value is the shown text.
 """
 
 import functools
@@ -12,7 +12,7 @@ UNDECIDED = ("undecided",)
 
 
 def answer(case):
-    """The answer to a case: the windows at whose end the tokens so far, open, leave it undecided; then the outcome."""
+    """The result of a case: the number of windows at whose end the tokens so far, open, are undecided; then the outcome."""
     parser, pieces = case.split(" ")
     parse = meaning(parser)
     tokens = ""
@@ -25,7 +25,7 @@ def answer(case):
     return f"asked {len(feeding)} undecided"
 
 
-# The tokens of each class, in ranges; of those that the tables of Unicode decide, nothing is said.
+# The tokens of each class, in ranges; none for classes that depend on Unicode's tables.
 CLASSES = {
     "digit": "30-39",
     "oct_digit": "30-37",
@@ -42,7 +42,7 @@ CLASSES = {
 
 
 def tokens_of(case):
-    """What is meant of a class; none where Unicode decides."""
+    """The meant tokens of a class; none where Unicode decides."""
     name = case.removeprefix("class ")
     return CLASSES.get(name, CLASSES.get(name.split("::")[1]))
 
@@ -95,7 +95,7 @@ def end_of_input(tokens, open_):
 
 
 def with_taken(parse, collect):
-    """The same outcomes, the value made of the tokens that were taken and of the one that was."""
+    """The same outcomes, with a value made of the taken tokens and the old value."""
 
     def parse_taking(tokens, open_):
         outcome = parse(tokens, open_)
@@ -108,7 +108,7 @@ def with_taken(parse, collect):
 
 
 def with_value(function, parse):
-    """The same outcomes, the value changed."""
+    """The same outcomes, with the value changed."""
 
     def parse_with(tokens, open_):
         outcome = parse(tokens, open_)
@@ -121,7 +121,7 @@ def with_value(function, parse):
 
 
 def but_b(parse):
-    """A function makes a capital of the value, and refuses a `b`, with the kind of the parser."""
+    """A function that makes a capital of the value, and refuses a `b`, committed as the parser was."""
 
     def parse_but_b(tokens, open_):
         outcome = parse(tokens, open_)
@@ -143,7 +143,7 @@ def length(size):
 
 
 def one_range(wanted=""):
-    """That many tokens are judged first; the same ones are accepted, always committed."""
+    """That many tokens have to be there; then equal ones are accepted, always committed."""
     first = length(len(wanted))
 
     def parse(tokens, open_):
@@ -168,7 +168,7 @@ def longest(letters, least):
 
 
 def before(find, is_range):
-    """What stands before the first place; where there is none, on ended input, a search refuses committed but an empty one."""
+    """The tokens before the first place; without one, on ended input, a search refuses committed unless it is empty."""
 
     def parse(tokens, open_):
         count = find(tokens)
@@ -184,7 +184,7 @@ def first_of(letters):
 
 
 def by_length(parse, collect):
-    """What a parser took, committed if it is anything."""
+    """The tokens that a parser took, committed if there are any."""
     recognized = with_taken(parse, collect)
 
     def parse_recognized(tokens, open_):
@@ -206,7 +206,7 @@ def whole_number(name):
 
 
 def after(count, committed, outcome):
-    """An outcome further on in a list: so many tokens and this commitment came before."""
+    """An outcome further on in a list, after `count` tokens and this commitment."""
     if outcome[0] == "accepted":
         return ("accepted", outcome[1], count + outcome[2], committed or outcome[3])
     if outcome[0] == "refused":
@@ -215,7 +215,7 @@ def after(count, committed, outcome):
 
 
 def sequence(parsers, collect):
-    """One after the other; the first that is not accepted gives the outcome."""
+    """Parsers one after the other; the first that doesn't accept decides the outcome."""
 
     def parse(tokens, open_):
         values, count, committed = [], 0, False
@@ -231,7 +231,7 @@ def sequence(parsers, collect):
 
 
 def and_then(parse, answer, collect):
-    """The parser that a function answers for the value of the first comes behind it."""
+    """The first parser, and then the one that a function returns for its value."""
 
     def parse_both(tokens, open_):
         first = parse(tokens, open_)
@@ -251,7 +251,7 @@ def same_token(letter):
 
 
 def dispatched(letter):
-    """What the cases dispatch to: `token(a)`, `satisfy(ab)`, `any()` behind an `a`, a `b`, another token."""
+    """The parser for the cases of `dispatch`: `token(a)` after an `a`, `satisfy(ab)` after a `b`, `any()` after another token."""
     return one(lambda token: token in {"a": "a", "b": "ab"}.get(letter, "abc"))
 
 
@@ -281,7 +281,7 @@ def attempt(parse):
 
 
 def look_ahead(parse):
-    """The value alone: nothing is taken."""
+    """A parser that takes nothing and returns the value."""
 
     def parse_ahead(tokens, open_):
         outcome = parse(tokens, open_)
@@ -327,7 +327,7 @@ def turns(parse, collect, least, is_last=lambda value: False):
 
 
 def counted(parse, collect, least, most):
-    """At most so many blocks, empty ones too; refused where a peeked refusal comes before the least number of them."""
+    """At most `most` blocks, empty ones too; refused where a peeked refusal comes before the minimum."""
 
     def parse_counted(tokens, open_):
         values, count, committed = [], 0, False
@@ -347,7 +347,7 @@ def counted(parse, collect, least, most):
 
 
 def first_and_turns(parse, turn, collect, is_last=lambda value: False):
-    """The parser, and then turns; collected are the first value and the list of those of the turns."""
+    """The parser, and then turns; `collect` gets the first value and the list of the others."""
     return and_then(parse, lambda value: turns(turn, list, 0, is_last), collect)
 
 
@@ -391,7 +391,7 @@ def escaped(parse, escape, behind):
 
 
 def until(parse, end, collect):
-    """Turns up to the first place where the end isn't refused peeked; its tokens are put back. A turn may not take nothing."""
+    """Turns up to the first place where the end isn't refused peeked; its tokens are put back. No turn may take nothing."""
 
     def parse_until(tokens, open_):
         values, count, committed = [], 0, False
@@ -413,7 +413,7 @@ def until(parse, end, collect):
 
 
 def iterate(most, parse):
-    """The n-th item wants the parser n times."""
+    """A number of items, for the n-th of which the parser runs n times."""
     return sequence([counted(parse, listed, item, item) for item in range(int(most))], listed)
 
 

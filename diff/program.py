@@ -1,4 +1,4 @@
-"""Our answers: the crate tests/cases as a program in a scratch repository, with parsers of parsers.list as its list, run by `rt try`."""
+"""Our results: the crate tests/cases as a program in a scratch repository, with parsers of parsers.list, run by `rt try`."""
 
 import contextlib
 import pathlib
@@ -12,13 +12,13 @@ import cases
 HERE = pathlib.Path(__file__).resolve().parent
 ROOT = HERE.parent
 CRATE = ROOT / "tests" / "cases"
-# The parsers that the stored cases are of.
+# The list of the parsers of the stored cases.
 KEPT = CRATE / "src" / "list.rt.txt"
-# What the tests have no use for stands in the scratch repository alone: files beside those of tests/cases.
+# Files that the tests don't need are in the scratch repository alone, beside those of tests/cases.
 ADDED = HERE / "ours"
-# So many parsers stand in one function of the list.
+# The number of parsers in one function of the list.
 TOGETHER = 10
-# So many are tried at once.
+# The number of parsers that are tried at once.
 TRIED_AT_ONCE = 60
 
 sys.path.append(str(ROOT / "trials"))
@@ -27,11 +27,11 @@ import scratch
 
 
 class Missing(Exception):
-    """Something that the run needs is not there, or did not work."""
+    """A tool or a file that the run needs is missing, or failed."""
 
 
 def tried(meant):
-    """What the sources answer to these cases, by `rt try`, which proves nothing: the answers that are meant, or others."""
+    """The results of our sources for these cases, by `rt try`, which proves nothing: the meant results, or others."""
     of_parser = {}
     for case in meant:
         of_parser.setdefault(case.split(" ")[0], []).append(case)
@@ -75,7 +75,7 @@ def copied(parsers, worded):
 
 
 def macro_of(parser):
-    """The macro that knows this parser by its text."""
+    """The macro that finds this parser by its text."""
     if cases.reads_ranges(parser):
         return "answer_over_windows"
     return "answer_of_characters" if "string(" in parser else "answer_composed"
@@ -135,7 +135,7 @@ def found_in(title, uses, groups, names, types):
 
 
 def output(words, cwd=None, input=""):
-    """What a command prints; `Missing` with its last lines where it fails."""
+    """The output of a command; `Missing` with its last lines where it fails."""
     done = subprocess.run([str(word) for word in words], cwd=cwd, input=input, capture_output=True, text=True)
     if done.returncode != 0:
         said = (done.stderr.strip() or done.stdout.strip()).splitlines()[-20:]

@@ -1,6 +1,6 @@
-"""What an error says that is meant, of a whole input of characters; and how what the crate says differs from it.
+"""The meant errors, of whole inputs of characters; and how the crate's texts differ from ours.
 
-A parser is read as a function of the tokens and a place in them, which answers `Said`. Items are pairs, of `Unexpected`,
+A parser is a function of the tokens and a place in them, which returns `Said`. Items are pairs of `Unexpected`,
 `Expected` or `Message` and a text; an item is added once.
 """
 
@@ -14,7 +14,7 @@ END = ("Unexpected", "end of input")
 
 @dataclasses.dataclass(frozen=True)
 class Said:
-    """The place behind an acceptance, or none; whether it is committed; of a refusal the place of the error and its items."""
+    """The place after an acceptance, or none; whether it is committed; for a refusal the place of the error and its items."""
 
     behind: int | None
     committed: bool
@@ -38,7 +38,7 @@ def added(said, *items):
 
 
 def answer(case):
-    """What is said of `says PARSER INPUT.`: `accepted`, or the lines of the error."""
+    """The meant text of `says PARSER INPUT.`: `accepted`, or the lines of the error."""
     _, parser, text = case.split(" ")
     tokens = text.removesuffix(".")
     said = explained(parser, tokens, 0, parse(parser)(tokens, 0))
@@ -59,7 +59,7 @@ def written(place, items):
 
 
 def explained(parser, tokens, at, said):
-    """A peeked refusal, with what stands where the parser began, and what it adds."""
+    """A peeked refusal, with the token where the parser began as unexpected, and the parser's own items."""
     if said.behind is not None or said.committed:
         return said
     stands = [("Unexpected", quoted(token)) for token in tokens[at : at + 1]]
@@ -88,7 +88,7 @@ def adds(parser):
 
 
 def but_expected(add, said):
-    """What is added, but for what is said to be expected."""
+    """The added items without the expected ones."""
     more = add(said).items[len(said.items) :]
     return added(said, *[item for item in more if item[0] != "Expected"])
 
@@ -104,7 +104,7 @@ ITEMS = {
 }
 
 
-# ---- what a parser answers
+# ---- the parsers
 
 
 @functools.cache
@@ -155,7 +155,7 @@ def sequence(*parts):
 
 
 def choice(*parts):
-    """The errors of alternatives that are refused peeked are merged: the later place stays, and else the items are added."""
+    """The errors of alternatives that are refused peeked are merged: the later place stays; at one place the items are added."""
 
     def parse_choice(tokens, at):
         merged = None
@@ -314,16 +314,16 @@ PARSERS = {
 }
 
 
-# ---- how the crate's words differ
+# ---- how the crate's texts differ
 
-# The entries of docs/DIFFERENCES.md.
+# The keys of docs/DIFFERENCES.md.
 OFFSETS = "errors-carry-no-offsets"
 ENDS = "ends-are-not-added"
 NAMES = (OFFSETS, ENDS)
 
 
 def lines_of(words):
-    """The first line, the lines of what was not expected, what was expected, and the messages."""
+    """The first line, the unexpected items, the expected ones, and the messages."""
     first, *lines = words.removesuffix("; ").split("; ")
     begun = {kind: [line.removeprefix(kind) for line in lines if line.startswith(kind)] for kind in ("Unexpected ", "Expected ")}
     wanted = [text for line in begun["Expected "] for text in line.replace(" or ", ", ").split(", ")]
@@ -332,10 +332,10 @@ def lines_of(words):
 
 
 def causes(crate, ours):
-    """The entries that explain why the words differ; none where they don't.
+    """The keys that explain why the texts differ; none where they don't.
 
-    At one place, with the same messages, what was expected may differ, and the token where the parser began may stand in one
-    alone; the crate may say that the input ended where it was not the end that was refused.
+    At one place, with the same messages, the expected items may differ, and one side alone may have the token where the
+    parser began; the crate may name the end of input where it was not the end that was refused.
     """
     first, stood, wanted, messages = lines_of(crate)
     our_first, our_stood, our_wanted, our_messages = lines_of(ours)

@@ -1,4 +1,4 @@
-// Stands in front of the allocator of a program of tests. Where REFUSED names a file, growths are refused, each to a copy of the process, which goes on from there, and says in that file what it has to say, the first 64 KiB of it. Behind it stands how the copy ended. Then the process itself grows, and goes on. The first thousand are refused, then each tenth, from ten thousand on each hundredth, and so on.
+// Wraps the allocator of a program of tests. If REFUSED names a file, growths are refused, each to a copy of the process, which goes on from there, and whose output is written to that file, the first 64 KiB of it, and after it the copy's status. Then the process itself grows, and goes on. The first thousand growths are refused, then each tenth, from ten thousand on each hundredth, and so on.
 #include <fcntl.h>
 #include <stdio.h>
 #include <stdlib.h>
@@ -9,7 +9,7 @@
 void *__real_malloc(size_t size);
 void *__real_realloc(void *from, size_t size);
 
-// The file, none in a copy, and how many growths there were.
+// The file, none in a copy, and the number of growths so far.
 static int said = -2;
 static unsigned long number = 0;
 

@@ -1,7 +1,7 @@
 """Reads the items of the library's sources, with their doc comments, for `trials/api` and `trials/examples`.
 
-A source is read token by token, for modules, what `use` brings in, functions with their signatures, structs, enums,
-traits, impls, aliases and macros. Tests are left out, and so are clauses, bodies and ghost items.
+A source is read token by token, for modules, imports by `use`, functions with their signatures, structs, enums, traits,
+impls, aliases and macros. Tests are left out, and so are clauses, bodies and ghost items.
 """
 import os, re
 from dataclasses import dataclass, field
@@ -59,7 +59,7 @@ class Module:
     public: bool = True
     items: list = field(default_factory=list)
     modules: dict = field(default_factory=dict)
-    # what `use` brings in: the name, the path, and whether it is public
+    # the imports of `use`: the name, the path, and whether it is public
     uses: list = field(default_factory=list)
 
     def root(self):
@@ -90,7 +90,7 @@ class Reader:
         return self.tokens[self.at - 1]
 
     def skip_group(self):
-        """Passes over a bracket, what it holds, and the bracket that closes it."""
+        """Skips a bracket, its contents, and the bracket that closes it."""
         closing = [CLOSES[self.take().text]]
         while closing:
             it = self.take()
@@ -100,7 +100,7 @@ class Reader:
                 closing.pop()
 
     def skip_to(self, *ends, angles=0):
-        """Passes over all tokens before one of these, outside of brackets (and of angles, if they count 1), and returns them as they are written, without comments."""
+        """Skips all tokens before one of these, outside of brackets (and of angles, if they count 1), and returns them as they are written, without comments."""
         start, depth = self.at, 0
         while not self.ends() and (depth > 0 or self.peek() not in ends):
             if self.peek() in CLOSES and self.tokens[self.at].kind == "mark":
@@ -135,7 +135,7 @@ def read_use(reader, public, module):
 
 
 def spread(tree, before, public, module):
-    """Adds the paths of a tree, as `a::{b, c::d}`, each after the path `before`, to what the module uses."""
+    """Adds the paths of a tree, as `a::{b, c::d}`, each after the path `before`, to the module's imports."""
     if tree.startswith("{"):
         for part in parts_of(tree[1:-1]):
             spread(part, before, public, module)
@@ -151,7 +151,7 @@ def spread(tree, before, public, module):
 
 
 def parts_of(text):
-    """The parts of a text between those commas that are outside of brackets."""
+    """The parts of a text between commas outside of brackets."""
     parts, depth, last = [], 0, ""
     for it in text:
         depth += (it in "([{<") - (it in ")]}" or (it == ">" and last != "-"))
@@ -164,7 +164,7 @@ def parts_of(text):
 
 
 def read_bounds(reader, item):
-    """The bounds of a signature whose head was read; its clauses are passed over."""
+    """The bounds of a signature whose head was read; its clauses are skipped."""
     if reader.peek() == "where":
         reader.take()
         item.bounds = reader.skip_to("requires", "ensures", "{", ";").strip().rstrip(",")
@@ -205,7 +205,7 @@ def read_struct(reader, item):
 
 
 def read_group(reader, read):
-    """Returns what `read` makes of the tokens in brackets."""
+    """Returns the result of `read` on the tokens in brackets."""
     start = reader.at
     reader.skip_group()
     inside = Reader.__new__(Reader)
@@ -335,7 +335,7 @@ def read_visibility(reader):
 
 
 def read_item(reader, module):
-    """The next item; none where there is none to be kept."""
+    """The next item; none where there is none to keep."""
     attributes = reader.at
     doc = read_doc(reader)
     if reader.ends():
@@ -393,7 +393,7 @@ def read_module(name, parent, public, file):
     return module
 
 
-# ---- what names mean
+# ---- the meaning of names
 
 
 def read_crates(top):
@@ -422,7 +422,7 @@ class Names:
         return found
 
     def of_name(self, name, module, seen=()):
-        """All that a name means in a module: an item, a module and a macro may share one."""
+        """All meanings of a name in a module: an item, a module and a macro may share one."""
         if (name, module.path()) in seen:
             return []
         seen = (*seen, (name, module.path()))
@@ -444,7 +444,7 @@ class Names:
 
 
 def offered(names, module):
-    """The public names of a module, each with the item or the module that it means."""
+    """The public names of a module, each with its item or module."""
     for name, inside in module.modules.items():
         if inside.public:
             yield name, inside

@@ -1,4 +1,4 @@
-// Refuses one growth of the program that it is preloaded into: that whose number REFUSE says, from 1.
+// Refuses one growth of the program that it is preloaded into: the one with the number REFUSE, from 1.
 #define _GNU_SOURCE
 #include <dlfcn.h>
 #include <stdlib.h>

@@ -1,11 +1,11 @@
-"""Scratch repositories, in which the crates of tests/ and the bench stand beside those of crates/."""
+"""Scratch repositories, in which the crates of tests/ and the bench are beside those of crates/."""
 import functools, hashlib, os, shutil, subprocess
 
 ROOT = os.path.realpath(f"{os.path.dirname(os.path.realpath(__file__))}/..")
 
 
 def listed(file):
-    """Returns the crates that a file lists, by name: what each line says behind its name."""
+    """Returns the crates that a file lists, by name: the rest of each line after its name."""
     with open(file, encoding="utf-8") as it:
         lines = [line.partition(":") for line in it if not line.startswith("#")]
     return {name.split()[0]: (name.strip(), below.split()) for name, colon, below in lines if colon}
@@ -28,14 +28,14 @@ def below(name, crates):
 
 
 def folder_of(name):
-    """Returns where a crate lies in the repository."""
+    """Returns the folder of a crate in the repository."""
     if name not in crates_of_tests():
         return f"crates/{name}"
     return "bench/ours" if name == "bench" else f"tests/{name}"
 
 
 def sources(name):
-    """Returns the files of a crate without its edits, each as the path that it has in its folder and where it lies. Of a crate of tests, a file NAME.rt.of names the file of the repository that NAME.rt is."""
+    """Returns the files of a crate without its edits, each as its path in the crate's folder and its place. In a crate of tests, a file NAME.rt.of names the file of the repository that NAME.rt is."""
     in_tests = name in crates_of_tests()
     folder = f"{ROOT}/{folder_of(name)}"
     for at, folders, files in os.walk(folder):
@@ -55,12 +55,12 @@ def with_tests():
 
 @functools.cache
 def version():
-    """Returns what the kit says of itself."""
+    """Returns the kit's version."""
     return subprocess.run(["rt", "version"], check=True, capture_output=True).stdout
 
 
 def files_at(path):
-    """Returns a file of the repository, or those below a folder, without what is made."""
+    """Returns a file of the repository, or those below a folder, without made files."""
     if os.path.isfile(f"{ROOT}/{path}"):
         return [path]
     found = []

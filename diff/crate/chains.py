@@ -24,7 +24,7 @@ def joined(left, operator, right):
 
 
 class Chainl1(Many):
-    """A first operand, and turns of operator and operand. In first mode too it goes on from an operand that is kept."""
+    """A first operand, and turns of operator and operand. In first mode too it goes on from a kept operand."""
 
     def __init__(self, switches, parts):
         parser, operator = parts
@@ -62,7 +62,7 @@ class Chainr1(Parser):
         return result
 
     def chain(self, turn, room, window):
-        """The operands from here on; of a turn that began at a place, so many more may be nested in it."""
+        """The operands from here on, with at most `room` more nested; `turn` is the place where their turn began, or none."""
         parser, operator = self.alternatives
         left = self.lazy(parser, window)
         if not left.accepted:
@@ -99,7 +99,7 @@ class Chainr1(Parser):
 class Escaped(Parser):
     """Turns of the one part, or of the escape and the other. In 4.6.6 it keeps no state.
 
-    With `ESCAPE`, what the refused part has read is put back before the escape is looked for.
+    With `ESCAPE`, the tokens of the refused part are put back before the escape is looked for.
     """
 
     def __init__(self, switches, parts):
@@ -132,7 +132,7 @@ class Escaped(Parser):
         raise Endless
 
     def unescaped(self, first, window):
-        """A turn of the first part, or the escape; an answer where there is neither."""
+        """A turn of the first part, or the escape; returns a result where there is neither."""
         start = window.at
         begun = not first and self.begun
         turn = self.parts[0].run(first, window)
@@ -147,7 +147,7 @@ class Escaped(Parser):
         self.begun = False
         result = self.read_escape(window)
         if window.asks(result):
-            # The part has answered, and begins from nothing.
+            # The part has a result, and begins from nothing.
             self.parts[0].clear()
             return result
         self.escaping = result.accepted
@@ -163,7 +163,7 @@ class Escaped(Parser):
         return result
 
     def without_state(self, window):
-        """As 4.6.6: whether the escape was found commits nothing."""
+        """As in 4.6.6: the escape commits nothing."""
         parser, behind = self.alternatives
         committed = False
         for _ in range(MOST_TURNS):

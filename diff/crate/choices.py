@@ -4,7 +4,7 @@ from .model import ATTEMPT, CHOICE, CONSTRUCTORS, Parser, accepted, make, refuse
 
 
 class Or(Parser):
-    """A choice, which stays with an alternative that asked for more. With `CHOICE` it goes on to the later ones."""
+    """A choice, which stays with an alternative that needed more. With `CHOICE` it goes on to the later ones."""
 
     def __init__(self, switches, parts):
         super().__init__(switches, [])
@@ -56,9 +56,9 @@ class Or(Parser):
 
 
 class SliceChoice(Parser):
-    """A choice over parsers of one type: that which asked for more is kept, whether it has taken tokens or not.
+    """A choice over parsers of one type: the one that needed more is kept, whether it has taken tokens or not.
 
-    They share a state. With `REFUSAL` a refused one leaves nothing in it; with `CHOICE` the later ones begin afresh.
+    They share a state. With `REFUSAL` a refusal clears it; with `CHOICE` the later ones begin afresh.
     """
 
     def forget(self):

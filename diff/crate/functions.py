@@ -1,10 +1,10 @@
-"""Values changed or refused by a function, the tokens that were taken, and errors that are shaped."""
+"""Values changed or refused by a function, taken tokens, and changed errors."""
 
 from .model import AND_THEN, CONSTRUCTORS, Parser, accepted, refused
 
 
 class FlatMap(Parser):
-    """A function makes a capital of a token, and refuses a `b`."""
+    """A function that makes a capital of a token, and refuses a `b`."""
 
     def parse(self, first, window):
         start = window.at
@@ -48,7 +48,7 @@ class Recognize(Parser):
 
 
 class Shaped(Parser):
-    """`expected`, `message`, `silent`: the error alone is another."""
+    """`expected`, `message`, `silent`: only the error differs."""
 
     def parse(self, first, window):
         return self.parts[0].run(first, window)

@@ -5,7 +5,7 @@ from .maps import wrapped
 
 
 class OneToken(Parser):
-    """`any`, `satisfy`, `one_of`, `token`: none wanted stands for all tokens."""
+    """`any`, `satisfy`, `one_of`, `token`: no argument means all tokens."""
 
     def __init__(self, switches, parts):
         super().__init__(switches, [])
@@ -31,7 +31,7 @@ class SatisfyMap(OneToken):
 
 
 class Eof(Parser):
-    """The end. With `EOF`, that of an open piece asks for more."""
+    """The end. With `EOF`, that of an open piece needs more."""
 
     def parse(self, first, window):
         start = window.at

@@ -1,4 +1,4 @@
-"""One parser, its outcome changed."""
+"""Parsers that change the outcome of one part."""
 
 from .model import ATTEMPT, CONSTRUCTORS, NOT, Parser, accepted, refused
 
@@ -25,9 +25,9 @@ class Optional(Parser):
 
 
 class Attempt(Parser):
-    """A committed refusal is peeked, and leaves it to the caller to put back what was read.
+    """A committed refusal becomes peeked, and the caller has to put the tokens back.
 
-    With `ATTEMPT`, need of more puts all tokens back, and how far the part had read is kept with its state.
+    With `ATTEMPT`, need of more puts all tokens back, and the distance that the part had read is kept with its state.
     """
 
     def forget(self):
@@ -36,7 +36,7 @@ class Attempt(Parser):
     def parse(self, first, window):
         start = window.at
         if not first:
-            # There may be fewer, where another parser has lost some.
+            # Fewer may be left, where another parser has lost some.
             window.at = min(start + self.distance, len(window.tokens))
         result = self.parts[0].run(first, window)
         self.distance = 0
@@ -68,7 +68,7 @@ class LookAhead(Parser):
 
 
 class NotFollowedBy(Parser):
-    """With `NOT`, need of more is its own, and it begins again."""
+    """With `NOT`, it needs more where its part does, and begins again."""
 
     def parse(self, first, window):
         start = window.at

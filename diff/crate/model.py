@@ -1,8 +1,8 @@
-"""What combine answers: its parsers written down as they are resumed, and what is otherwise in ours as switches.
+"""The results of combine: its parsers in Python, with their states, and the differences of ours as switches.
 
-With no switch on, the answers are those of combine 4.6.6; with those between the versions on, those of 4.6.9; with all
-on, ours. Each switch is an entry of docs/DIFFERENCES.md, by its slug. A difference is named by the switches that turn the
-one answer into the other.
+With no switch on, the results are those of combine 4.6.6; with those between the versions on, those of 4.6.9; with all
+on, ours. Each switch is a row of docs/DIFFERENCES.md, by its key. A difference is named by the switches that turn one
+result into the other.
 """
 
 import dataclasses
@@ -37,21 +37,21 @@ ESCAPED_STATE = "escaped-in-4-6-6"
 
 @dataclasses.dataclass(frozen=True)
 class Switch:
-    """An entry, and what it excuses besides answers over a cut."""
+    """A row's key, and what it excuses besides results over a cut."""
 
     slug: str
-    # Answers on whole inputs.
+    # Results on whole inputs.
     whole: bool = False
-    # Which of the answers `endless` and `panic`.
+    # Which of the results `endless` and `panic`.
     failures: tuple = ()
-    # The beginnings of the constructors that it is about; none where they are many.
+    # The beginnings of the constructors that it concerns; none where they are many.
     calls: tuple = ()
 
     def concerns(self, case):
         return not self.calls or any(call in case for call in self.calls)
 
 
-# In this order: where several sets of as few switches explain a difference, the earlier ones name it.
+# In this order: of several smallest sets of switches that explain a difference, the earlier one names it.
 SWITCHES = [
     Switch(NOTHING, whole=True, failures=("endless",)),
     Switch(TUPLE),
@@ -80,12 +80,12 @@ DEBIAN = frozenset()
 LATEST = frozenset(switch.slug for switch in BETWEEN_VERSIONS)
 # More turns than any repetition takes on a few tokens.
 MOST_TURNS = 100
-# What a parser is made with; all else that it has is its state.
+# The fields that a parser is made with; all others are its state.
 MADE_WITH = ("switches", "parts", "alternatives", "wanted", "value", "least", "most", "escape")
 
 
 class Endless(Exception):
-    """A repetition goes round for ever."""
+    """A repetition never ends."""
 
 
 class Panic(Exception):
@@ -93,7 +93,7 @@ class Panic(Exception):
 
 
 class Result(typing.NamedTuple):
-    """What a call of a parser answers. A refusal at the end says that the error speaks of the end of input."""
+    """The result of a call of a parser. `at_end`: a refusal whose error is of the end of input."""
 
     accepted: bool
     committed: bool
@@ -110,7 +110,7 @@ def refused(committed, at_end=False):
 
 
 class Window:
-    """What is unread of the earlier pieces, and the next piece; whether more may follow."""
+    """The unread tokens of the earlier pieces, and the next piece; whether more may follow."""
 
     def __init__(self, tokens, open_):
         self.tokens = tokens
@@ -125,7 +125,7 @@ class Window:
         return accepted(self.tokens[self.at - 1], True)
 
     def read_range(self, size):
-        """So many tokens; none where there are fewer."""
+        """That many tokens; none where there are fewer."""
         tokens = self.tokens[self.at : self.at + size]
         if len(tokens) < size:
             return None
@@ -133,7 +133,7 @@ class Window:
         return tokens
 
     def pass_over(self, distance):
-        """Goes on behind what was read before; the crate panics where there is less."""
+        """Skips the tokens that were read before; the crate panics where there are fewer."""
         if self.read_range(distance) is None:
             raise Panic
 
@@ -141,12 +141,12 @@ class Window:
         return self.open and self.at == len(self.tokens)
 
     def asks(self, result):
-        """Whether this result asks for more."""
+        """Whether this result is need of more."""
         return self.open and not result.accepted and result.committed and result.at_end
 
 
 def answer(case, switches):
-    """The answer to a case, as the programs write it."""
+    """The result of a case, as the programs write it."""
     text, pieces = case.split(" ")
     try:
         return feed(make(text, switches), cases.windows(pieces))
@@ -174,7 +174,7 @@ def shown(result, taken):
 
 
 def make(text, switches):
-    """A parser with nothing kept."""
+    """A parser without a state."""
     constructor, parts = plan(text)
     return constructor(switches, parts)
 
@@ -186,9 +186,9 @@ def plan(text):
 
 
 class Parser:
-    """A parser and the state that it keeps.
+    """A parser and its kept state.
 
-    `parse` answers a call: in first mode, or to go on from what is kept; `forget` leaves nothing kept.
+    `parse` is a call: in first mode, or from the kept state; `forget` clears that.
     """
 
     def __init__(self, switches, parts):
@@ -200,7 +200,7 @@ class Parser:
         pass
 
     def run(self, first, window):
-        """A call. With `REFUSAL`, first mode begins from nothing, and all but need of more leaves nothing."""
+        """A call. With `REFUSAL`, first mode begins from nothing, and all results but need of more clear the state."""
         if REFUSAL not in self.switches:
             return self.parse(first, window)
         if first:
@@ -218,7 +218,7 @@ class Parser:
     def lazy(self, text, window):
         """A call of a part without a state: on an open piece a committed refusal puts the tokens back.
 
-        But not where the part keeps no state either.
+        This doesn't apply to a part that keeps no state either.
         """
         start = window.at
         part = make(text, self.switches)

@@ -34,7 +34,7 @@ class Take(Parser):
 
 
 class TakeWhile(Parser):
-    """The longest beginning of these tokens. On need of more how long it was is kept, and passed over."""
+    """The longest beginning of these tokens. On need of more its length is kept, and skipped."""
 
     least = 0
 
@@ -66,7 +66,7 @@ class TakeWhile1(TakeWhile):
 
 
 class TakeUntilRange(Parser):
-    """What stands before a text. On need of more the place of the first that was too short for it is kept."""
+    """The tokens before a text. On need of more the first place that was too short for it is kept."""
 
     def __init__(self, switches, parts):
         super().__init__(switches, [])
@@ -120,9 +120,9 @@ class RecognizeRange(RecognizeWithValue):
 
 
 class Search(Parser):
-    """What stands before the place that is found. On need of more all is put back, and a hint is kept.
+    """The tokens before the place that is found. On need of more all is put back, and a hint is kept.
 
-    With `OFFSET` it is the whole input that has to be empty for a peeked refusal.
+    With `OFFSET` a refusal is peeked only if the whole input is empty.
     """
 
     def __init__(self, switches, parts):

@@ -19,7 +19,7 @@ from .choices import Or
 class Many(Parser):
     """Turns until a peeked refusal. With `MANY`, whether an earlier turn committed is kept.
 
-    Kept besides: whether the running turn took tokens before the cut, for `NOTHING`.
+    Also kept: whether the running turn took tokens before the cut, for `NOTHING`.
     """
 
     def forget(self):
@@ -48,7 +48,7 @@ class Many(Parser):
             first, begun = True, False
 
     def last(self, turn, start, has_taken, committed, window):
-        """What it answers where a turn is refused, or asks for more."""
+        """The result where a turn is refused, or needs more."""
         if turn.committed:
             self.committed, self.begun = committed, has_taken
             return turn
@@ -95,7 +95,7 @@ class Many1(Many):
 
 
 class Skipping:
-    """Values are dropped."""
+    """A repetition that drops its values."""
 
     def show(self, elements):
         return "()"
@@ -110,7 +110,7 @@ class SkipMany1(Skipping, Many1):
 
 
 class CountMinMax(Many):
-    """At most so many turns. With `COUNTS`, whether an earlier turn committed is kept."""
+    """At most `most` turns. With `COUNTS`, whether an earlier turn committed is kept."""
 
     def __init__(self, switches, parts):
         *numbers, parser = parts
@@ -190,7 +190,7 @@ class SepEndBy1(Many):
 
 
 class SepBy1(SepEndBy1):
-    """A first element, and turns of the separator and an element. With `SEPARATED` it is kept that there was a first."""
+    """A first element, and turns of the separator and an element. With `SEPARATED` the state keeps that there was a first."""
 
     def add(self, value):
         Many.add(self, value)

@@ -1,10 +1,10 @@
-"""Sequences, and parsers that a function answers."""
+"""Sequences, and parsers that a function returns."""
 
 from .model import CONSTRUCTORS, TUPLE, Parser, accepted, make, refused
 
 
 class Then(Parser):
-    """The parser that a function answers is kept, with whether the first one committed."""
+    """The parser that a function returns is kept, with whether the first one committed."""
 
     def forget(self):
         self.answered = None
@@ -46,7 +46,7 @@ class Dispatch(Then):
 
 
 class Tuple(Parser):
-    """The values of parts are kept. With `TUPLE`, whether one of those parts committed is looked at."""
+    """The values of parts are kept. With `TUPLE`, so is whether one of these parts committed."""
 
     def forget(self):
         self.kept = [None] * len(self.parts)
@@ -72,12 +72,12 @@ class Tuple(Parser):
         return f"({','.join(values)})"
 
     def refusal(self, at, start, committed, result, window):
-        """What it answers where a part is refused, or asks for more."""
+        """The result where a part is refused, or needs more."""
         if at == 0 or result.committed:
             return result
         window.at = start
         if committed:
-            # The next token is read for the message.
+            # Reads the next token for the error's message.
             window.read()
         return refused(committed)
 

@@ -4,7 +4,7 @@ from .model import CONSTRUCTORS, MOST_TURNS, NOTHING, UNTIL, Endless, Parser, ac
 
 
 class RepeatUntil(Parser):
-    """Turns of the one part up to where the other is accepted, which is put back.
+    """Turns of the first part up to where the second is accepted, which is put back.
 
     With `UNTIL`, need of more puts everything back, and it begins again.
     """
@@ -67,7 +67,7 @@ class RepeatSkipUntil(RepeatUntil):
 
 
 class TakeUntil(RepeatUntil):
-    """Each turn is a token; that one was read last is no state, and `end` is resumed at each place."""
+    """Each turn is a token; whether one was read last is no state, and `end` is resumed at each place."""
 
     def __init__(self, switches, parts):
         super().__init__(switches, ["any()", *parts])
@@ -96,7 +96,7 @@ class SkipUntil(TakeUntil):
 
 
 class Iterate(Parser):
-    """So many items, the n-th of which wants its part n times."""
+    """A number of items, for the n-th of which the part runs n times."""
 
     def __init__(self, switches, parts):
         super().__init__(switches, [])

@@ -1,4 +1,4 @@
--- what stands behind an opening bracket, by how deep it may be
+-- the reading after an opening bracket, by the depth allowed
 use Rattle.std.proofs.Common.{ℕ, zero, suc, ◌-◌, ◌≡◌, Option, Some, None, arith, refl}
 use Rattle.combine_base.specs.Sequence.Readings.{sequel}
 use Rattle.example_callers.specs.Nests.{closed, inside, nest, none_there, second, too_deep}

@@ -10,32 +10,32 @@ use std::alloc::{AllocError, Global};
 use std::io;
 use std::process::ExitCode;
 
-/// How many arrays may stand inside one another.
+/// The most arrays inside one another.
 const MOST_ARRAYS: usize = 32;
 
-/// The most bytes of a bulk string, as a server has it.
+/// The most bytes of a bulk string, as on a server.
 const MOST_BYTES: i64 = 512 * 1024 * 1024;
 
-/// The most items of an array, as a server has it.
+/// The most items of an array, as on a server.
 const MOST_ITEMS: i64 = 1024 * 1024;
 
-/// A line: its kind, and what stands after that. The bytes of a bulk string are one of kind `+`.
+/// A line: its kind, and the bytes after it. The bytes of a bulk string are one of kind `+`.
 type Line = (u8, Vec<u8>);
 
-/// What comes of items.
+/// The next step after items.
 type Then = Result<Next<Items, String>, AllocError>;
 
-/// An array whose items come, or the one reply that isn't in an array.
+/// An open array, or the one reply that isn't in an array.
 #[derive(Drop)]
 struct Items {
     alloc: Global,
-    /// How many are still to come.
+    /// The number of items still to come.
     missing: i64,
-    /// In how many arrays they stand.
+    /// The number of arrays around the items.
     depth: usize,
     /// The length of the bulk string that comes next, if one does.
     length: Option<usize>,
-    /// What is printed of those that have come.
+    /// The printed text of the items so far.
     text: String,
 }
 
@@ -64,7 +64,7 @@ impl Items {
         Ok(())
     }
 
-    /// What comes of them: where none is missing, what is printed of all.
+    /// Closes with the printed text where no item is missing, else stays.
     fn go_on(self) -> Then {
         if self.missing > 0 {
             return Ok(Next::Stay(self));
@@ -102,13 +102,13 @@ impl Frame for Items {
     }
 }
 
-/// The number that a line says, if it says one.
+/// Returns the number that a line writes, if it writes one.
 fn number_of(line: &[u8]) -> Option<i64> {
     let text = str::from_utf8(line).ok()?;
     text.parse::<i64>().ok()
 }
 
-/// Prints each reply of standard input as soon as it has come.
+/// Prints each reply of standard input as soon as it is complete.
 pub fn print_replies(rt: &HostRuntime) -> io::Result<ExitCode> {
     let alloc = rt.alloc();
     let maker = move || {

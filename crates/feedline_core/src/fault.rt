@@ -23,7 +23,7 @@ pub enum Fault {
 }
 
 impl Fault {
-    /// The line that the program writes, without its end.
+    /// Returns the line that the program writes, without its end.
     fn text(self) -> &'static str
         ensures { result.now ≡ fault_text self }
     {

@@ -1,4 +1,4 @@
-//! What a message says.
+//! The parts of a message.
 
 /// A message that was read.
 #[derive(Debug, Drop, PartialEq)]

@@ -48,7 +48,7 @@ impl MutFunction<(), Bytes> for Semicolon {
     }
 }
 
-/// The same byte as a small letter; the stream stays in place.
+/// Returns the byte as a small letter; the stream stays in place.
 #[derive(Clone, Copy, Drop)]
 struct Small;
 
@@ -70,7 +70,7 @@ pub fn pairs(alloc: Global, pieces: &[&[u8]]) -> InPieces<((u8, u8), u8, (u8, u8
     parse_pieces(alloc, (twice, again, end), pieces)
 }
 
-/// Small and capital letters are alike.
+/// Compares small and capital letters as equal.
 #[derive(Clone, Copy, Drop)]
 struct AnyCase;
 

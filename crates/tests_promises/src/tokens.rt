@@ -1,4 +1,4 @@
-//! Parsers of tokens.
+//! Promises of parsers of tokens.
 
 use crate::promises::keeps_without_memory;
 use combine::error::ParseError;

@@ -1,4 +1,4 @@
-//! Choices.
+//! Rows of choices.
 
 use crate::rows::{Driver, Rows};
 use combine::choice;

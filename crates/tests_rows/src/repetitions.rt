@@ -68,7 +68,7 @@ where
     )
 }
 
-/// Rows of so many digits, with a comma between two.
+/// Rows of a number of digits, with commas between them.
 fn digits<Input: Stream<Token = u8>, D: Driver<Input>, T: Lasting>(
     alloc: Global,
     rows: &mut D,
@@ -128,7 +128,7 @@ where
     )
 }
 
-/// Rows of what stands before this end.
+/// Rows of the tokens before this end.
 fn up_to<Input: Stream<Token = u8>, P: Parser<Input> + Drop, D: Driver<Input>, T: Lasting>(
     alloc: Global,
     rows: &mut D,
