@@ -1,4 +1,4 @@
-//! Repetitions up to a place.
+//! Repetitions up to the first place where another parser succeeds.
 #![tactic(auto)]
 
 mod mute;
