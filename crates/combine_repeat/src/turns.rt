@@ -528,6 +528,7 @@ pub fn take_turns<
             }
         }
     }
+    // The label names the loop's invariant.
     'turns: loop {
         if bounds.is_full(turns.index) {
             return turns.end();

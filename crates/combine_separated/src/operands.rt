@@ -113,6 +113,7 @@ fn fold_right<O: Folds<V> + Drop, V: Drop>(before: Vec<PendingOperand<O, V>>, la
 {
     let mut before = before;
     let mut last = last;
+    // The label names the loop's invariant.
     'folding: while let Some(left) = before.pop() {
         let PendingOperand { operand, operator } = left;
         last = operator.fold_two(operand, last);

@@ -395,6 +395,7 @@ pub fn take_blocks<
         Err(kind) => return ParseResult::CommitErr(input.new_error(lost(kind), position)),
     };
     let mut blocks = blocks.or_committed(before > 0);
+    // The label names the loop's invariant.
     'turns: loop {
         match one_block(parser, place, mode, blocks, input, &mut running) {
             BlockStep::Goes(next) => blocks = next,

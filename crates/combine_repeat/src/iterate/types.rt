@@ -79,6 +79,7 @@ where
                 }
             },
         }
+        // The label names the loop's invariant.
         'items: loop {
             let Some(item) = collected.items.next() else {
                 return accepted_after(collected.committed, collected.values);
