@@ -18,7 +18,7 @@ use types::{TakeUntilByte, TakeUntilByte2, TakeUntilByte3, TakeUntilBytes};
 ///
 /// - If the byte occurs nowhere in ended input, the result is refused, peeked if the input is empty and else committed, with an error of kind `End`.
 /// - In a text a place inside a character is refused peeked.
-/// - Faults are `Lost`, if the input is shorter than what was searched, `Read` and `Reset` of the stream, and `Memory` if an error finds none for its text.
+/// - Faults are `Lost`, if the input is shorter than the kept distance, `Read` and `Reset` of the stream, and `Memory` if an error finds none for its text.
 ///
 /// # Partial input
 ///

@@ -145,7 +145,7 @@ pub fn letter<Input>() -> Letter<Input>
     in_class()
 }
 
-/// Takes a letter or a digit: a character with the property Alphabetic or of a general category of numbers (Nd, Nl or No), or a byte that is a letter or a digit of ASCII.
+/// Takes a letter or a digit. It is a character with the property Alphabetic or of a general category of numbers (Nd, Nl or No), or a byte that is a letter or a digit of ASCII.
 #[inline]
 pub fn alpha_num<Input>() -> AlphaNum<Input>
     ensures { result ≡ in_class_parser }

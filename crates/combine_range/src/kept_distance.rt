@@ -42,7 +42,7 @@ where
     }
 }
 
-/// Returns the result if the kept distance could not be skipped: a fault, or a peeked refusal if the distance ends inside a token, with an error made there.
+/// Returns the result if the kept distance could not be skipped. It is a fault, or a peeked refusal if the distance ends inside a token, with an error made there.
 #[cold]
 pub fn not_passed<O, Input: Stream>(
     input: &Input,

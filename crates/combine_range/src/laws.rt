@@ -21,7 +21,7 @@ where
     ensures { (v : View Input.Position Input.Token) (range : Input.Range) (n : ℕ) (committed : Bool) → (⟦<Recognize<P> as Parser<Input>>⟧.meaning (recognize_of parser.now)).whole v (Accepted range n committed) ↔ TakesExactly Input.spells (P.meaning parser.now).whole v range n committed }
 {}
 
-/// If ranges of the same tokens compare alike, `take_until_range` finds the first place where the range occurs; if it finds none, the range occurs nowhere.
+/// If ranges of the same tokens compare alike, `take_until_range` finds the first place where the range occurs. If it finds none, the range occurs nowhere.
 pub fn tested_is_first<Input: RangeStream>(wanted: Input::Range)
 where
     Input::Range: Range + PartialEq,

@@ -38,7 +38,7 @@ where
     }
 }
 
-/// Takes the tokens before the first place of a range, or before the first place with too few items to compare, and returns whether the range was found.
+/// Takes the tokens before the first place of a range, and returns true. If there is none, it takes those before the first place with too few items to compare, and returns false.
 #[inline(always)]
 pub fn seek<Input: RangeStream>(input: &mut Input, wanted: Input::Range) -> Result<bool, Kind>
 where

@@ -95,7 +95,7 @@ pub fn take<Input>(count: usize) -> Take<Input>
 /// # Errors
 ///
 /// - It is refused only if a kept distance ends inside a token of other input.
-/// - Faults are `Lost`, if the input is shorter than what an earlier call read, and `Read` and `Reset` of the stream.
+/// - Faults are `Lost`, if the input is shorter than the kept distance, and `Read` and `Reset` of the stream.
 ///
 /// # Partial input
 ///
@@ -158,7 +158,7 @@ pub fn take_while1<Input, F>(predicate: F) -> TakeWhile1<Input, F>
 /// # Errors
 ///
 /// - If it doesn't occur in ended input, the result is refused peeked. The error is of kind `End`, is where the call began, however much was searched, and has the end of input as unexpected.
-/// - Faults are `Lost`, if the input is shorter than what an earlier call searched, `Read` and `Reset` of the stream, and `Memory` if an error finds none for its text.
+/// - Faults are `Lost`, if the input is shorter than the kept distance, `Read` and `Reset` of the stream, and `Memory` if an error finds none for its text.
 ///
 /// # Partial input
 ///

@@ -5,7 +5,7 @@ ghost use Rattle.combine_repeat.specs.Turns.Bounds.{counted_bounds, counted_to, 
 
 use combine_base::stream::{Stream, has_taken};
 
-/// Bounds on the number of turns, for contracts: the value that a type of `TurnBounds` stands for.
+/// Bounds on the number of turns, for contracts: the value of a type of `TurnBounds`.
 #[derive(Clone, Copy)]
 pub enum Bounds {
     /// Any number; each takes a token.
@@ -72,7 +72,7 @@ impl TurnIndex {
     }
 }
 
-/// What is missing when a turn is refused peeked.
+/// The turns that are missing when one is refused peeked.
 pub enum Lack {
     /// Nothing: there are enough turns.
     Nothing,
@@ -105,7 +105,7 @@ pub trait TurnBounds: Copy {
     fn is_full(self, index: TurnIndex) -> bool
         ensures { result ≡ full_at (bounds self) index };
 
-    /// Returns what is missing if this turn is refused peeked.
+    /// Returns the turns that are missing if this one is refused peeked.
     fn lacks(self, index: TurnIndex) -> Lack
         ensures { result ≡ lack_at (bounds self) index };
 
@@ -193,7 +193,7 @@ fn is_first_or_takes_token<Input: Stream>(
     takes_token(index, committed, since, input)
 }
 
-/// Returns what is missing of `min` turns, the first of which is a part of its own.
+/// Returns the turns that are missing of `min`, the first of which is a part of its own.
 #[inline(always)]
 fn first_lacks(index: TurnIndex, min: usize) -> Lack
     ensures { result ≡ first_lack min index }

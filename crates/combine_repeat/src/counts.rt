@@ -8,7 +8,7 @@
 //!
 //! `add_error` adds the items of the parser; each repetition counts as one parser.
 //!
-//! The error of a refusal is exact: that of a turn refused committed, one with which the parser refuses, or the number of missing turns, at the position where the last turn was begun or resumed.
+//! The error of a refusal is exact: the error of a turn refused committed, which is one with which the parser refuses, or the number of missing turns, at the position where the last turn was begun or resumed.
 ghost use Rattle.std.specs.Prelude.{◌≡◌, ◌≤◌, ◌&&◌, if◌then◌else◌};
 ghost use Rattle.combine_repeat.specs.Repeat.RepeatParsers.{count_min_max_of, skip_count_min_max_of, repeat_bounds, repeat_of, repeated_by};
 ghost use Rattle.combine_repeat.specs.Turns.Bounds.{fresh_turns_valid, gathered, is_unbounded, running_turn};

@@ -10,7 +10,7 @@
 //!
 //! `add_error` adds the items of the parser. A repetition counts as its parser does, a skipping form as one parser.
 //!
-//! The error of a refusal is exact: that of a turn refused committed, that of a required first turn, unchanged, each one with which the parser refuses, or the message of a turn that takes nothing, at the position where it was begun or resumed.
+//! The error of a refusal is exact: the error of a turn refused committed, the unchanged error of a required first turn, or the message of a turn that takes nothing, at the position where it was begun or resumed. A turn's own error is one with which the parser refuses.
 ghost use Rattle.std.specs.Prelude.{◌≡◌};
 ghost use Rattle.combine_repeat.specs.ManyParsers.{many_of, many1_of, skip_many_of, skip_many1_of};
 

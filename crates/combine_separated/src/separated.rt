@@ -25,7 +25,7 @@ pub enum Element<O, V> {
     Then(O, V),
 }
 
-/// What precedes a part: nothing, or a separator.
+/// The lead of a part: nothing, or a separator.
 #[derive(Drop)]
 pub enum Lead<O> {
     /// Nothing precedes the first part.
@@ -34,7 +34,7 @@ pub enum Lead<O> {
     Separator(O, bool),
 }
 
-/// The kept state of a running turn: of a later separator, or of a part, with what precedes it.
+/// The kept state of a running turn: of a later separator, or of a part, with its lead.
 ///
 /// It has the part's state in one place, so that nested parts make it grow by a constant at each level.
 #[derive(Drop)]
@@ -94,7 +94,7 @@ impl<O, W, U> SeparatedState<O, W, U> {
     }
 }
 
-/// An operator of a chain, which makes one operand of two: a closure, a function, or a type of your own, perhaps an enum. Our own.
+/// An operator of a chain, which makes one operand of two. It is a closure, a function, or a type of your own, perhaps an enum. Our own.
 ///
 /// A type of your own writes `fold_two`; it can then be called on any two operands, and nothing is known of its result. The ghost members `callable` and `answers` can specify more.
 ///

@@ -294,7 +294,7 @@ fn one_block<
     }
 }
 
-/// Puts the stream back to the start on need of more, and keeps the distances: from the start to where the running parser began, and from there to where the stream was.
+/// Puts the stream back to the start on need of more, and keeps the distances. These are from the start to where the running parser began, and from there to where the stream was.
 fn keep<F, Input: Stream, S>(
     blocks: Blocks<F>,
     need: Input::Error,
@@ -357,7 +357,7 @@ where
     }
 }
 
-/// Collects the values of `parser` from `empty` on, up to the first place where it gives `None`, to which the stream is put back.
+/// Collects the values of `parser` up to the first place where it gives `None`. It begins with `empty`, and puts the stream back to that place.
 #[inline(always)]
 pub fn take_blocks<
     A: Drop,

@@ -23,7 +23,7 @@ where
     ensures le_u64 { MeansSame (⟦<LeU64<Input> as Parser<Input>>⟧.meaning number_parser) (takes_number Input.Error.observers 8 little_endian) }
 {}
 
-/// Each signed parser takes that many bytes, and its value is their sum, less 256 to their number if the sum is at least half of that.
+/// Each signed parser takes that many bytes, and its value is their sum in two's complement. That is the sum, less 256 to their number if the sum is at least half of that.
 #[inline]
 pub fn signed_numbers<Input: Stream<Token = u8>>()
 where

@@ -106,7 +106,7 @@ judged b ending g (Accepted a n k) = accepted_at n k (ending a) (is_block_at b g
 judged b ending g (Refused k) = refused_at (is_enough b g) k
 judged b ending g Undecided = StopsTurns Undecided
 
--- what is missing when a turn is refused peeked
+-- the turns that are missing when one is refused peeked
 abbrev pub lack_by : Bool → Bool → ℕ → Lack
 lack_by true owned n = lack.Nothing
 lack_by false true n = lack.First

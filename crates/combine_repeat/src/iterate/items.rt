@@ -14,7 +14,7 @@ use combine_base::repeat::Append;
 use combine_base::stream::{Kind, Stream, needs_more};
 use std::alloc::AllocError;
 
-/// The state of the items: the values of the finished ones, whether there are any, whether one committed, and an iterator over the rest.
+/// The state of the items. It has the values of the finished ones, whether there are any, whether one committed, and an iterator over the rest.
 #[derive(Drop)]
 pub struct CollectedItems<C, I> {
     pub(super) values: C,

@@ -21,7 +21,7 @@ where
     ensures { MeansSame (⟦<Chainl1<P, S> as Parser<Input>>⟧.meaning (chainl1_of parser.now operator.now)) (chainl1 Input.step Input.Error.observers (λ f x y r. S.Output.answers f x y r) (P.meaning parser.now) (S.meaning operator.now)) }
 {}
 
-/// `chainr1` means operands that are folded from the right, with each call from the start, and these are an operand and turns of an operator and an operand under the rule of `many`.
+/// `chainr1` means operands that are folded from the right, with each call from the start. These are an operand and turns of an operator and an operand under the rule of `many`.
 ///
 /// So an operator without an operand, if refused peeked, is put back and ends the chain; else the refusal is committed.
 pub fn chainr1_is_right_fold<Input: Stream, P: Parser<Input>, S: Parser<Input>>(
@@ -35,7 +35,7 @@ where
     ensures turns { OperandsAreOneThenTurns Input.step Input.Error.observers (P.meaning parser.now) (S.meaning operator.now) }
 {}
 
-/// `escaped` means blocks under the rule of `many`: each is a run of `parser` or, where it is refused peeked, the token `escape` and a run of `escaped`.
+/// `escaped` means blocks under the rule of `many`. Each is a run of `parser` or, where it is refused peeked, the token `escape` and a run of `escaped`.
 pub fn escaped_is_blocks<Input: Stream, P: Parser<Input>, Q: Parser<Input>>(
     parser: &P,
     escape: Input::Token,

@@ -34,7 +34,7 @@ pub type Chainr1<P, S> = NoPartial<Chain<FromRight, P, S>>;
 /// The parser of [`escaped`](crate::chains::escaped).
 pub type Escaped<Input, P, T, Q> = SkipMany<Or<Ignore<P>, Ignore<(Token<Input, T>, Q)>>>;
 
-/// The state of `escaped`: whether a turn committed, whether the running one has taken a token, and which part of it runs, with its state.
+/// The state of `escaped`. It keeps whether a turn committed, whether the running one has taken a token, and which part of it runs, with its state.
 pub type EscapedState<Input, P, T, Q> = TurnsState<
     (),
     OrState<<P as Parser<Input>>::PartialState, State2<Input, Token<Input, T>, Q>>,

@@ -10,7 +10,7 @@ use combine_base::parser::Parser;
 use combine_base::repeat::Append;
 use combine_base::stream::Stream;
 
-/// `sep_by1(p, s)` is an element, and then turns of the separator and an element under the rule of `many`: each takes a token, and a peeked refusal ends them.
+/// `sep_by1(p, s)` is an element, and then turns of the separator and an element under the rule of `many`. Each takes a token, and a peeked refusal ends them.
 pub fn sep_by1_is_one_then_turns<F, Input: Stream, P: Parser<Input>, S: Parser<Input>>(
     parser: &P,
     separator: &S,
