@@ -4,7 +4,7 @@
 //!
 //! # Errors
 //!
-//! Too few bytes of ended input are put back and refused peeked, with an error where the parser began. Nothing is expected in it.
+//! Too few bytes of ended input are put back and refused peeked, with an error where the parser began, without expected items.
 //!
 //! # Partial input
 //!

@@ -144,7 +144,7 @@ pub struct WholeNumber<Input, O, N> {
 ///
 /// # Errors
 ///
-/// Too few bytes of ended input are put back and refused peeked, with an error where the parser began. Nothing is expected in it.
+/// Too few bytes of ended input are put back and refused peeked, with an error where the parser began, without expected items.
 ///
 /// # Partial input
 ///

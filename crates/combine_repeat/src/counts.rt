@@ -134,7 +134,7 @@ impl<
 ///
 /// # Errors
 ///
-/// - A peeked refusal after fewer than `min` turns is refused with the message `expected N more elements`, at the position where that turn began. The refusal is committed exactly if a turn was. Its kind is the kind of the turn's refusal: `End` where the input ended, and else `Refused`.
+/// - If a turn is refused peeked after fewer than `min` turns, the result is refused with the message `expected N more elements`, at the position where that turn began. It is committed exactly if a turn was. Its kind is the kind of the turn's refusal: `End` where the input ended, and else `Refused`.
 /// - A committed refusal of a turn is the result.
 /// - A collection that can't grow is the committed fault `Memory`, and a stream that can't be put back `Reset`.
 ///

@@ -129,7 +129,7 @@ impl<Input: Stream, P: Parser<Input>, S: Parser<Input>, F: Append<P::Output>, B:
 /// # Errors
 ///
 /// - A refusal of the first element is the result, except a peeked one with `min` 0.
-/// - A peeked refusal of a later turn after fewer than `min` elements is refused with the message `expected N more elements`, at the position where that turn began. The refusal is committed exactly if a turn was. Its kind is the kind of the turn's refusal: `End` where the input ended, and else `Refused`.
+/// - If a later turn is refused peeked after fewer than `min` elements, the result is refused with the message `expected N more elements`, at the position where that turn began. It is committed exactly if a turn was. Its kind is the kind of the turn's refusal: `End` where the input ended, and else `Refused`.
 /// - If a separator is committed and the element after it is refused, the refusal is committed.
 /// - A later turn that takes nothing is refused, committed, with the message `repetition takes nothing`.
 /// - Faults are as for `many`.

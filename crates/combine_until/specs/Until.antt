@@ -39,7 +39,7 @@ abbrev pub stop_at : {A : Type 0} → ℕ → ℕ → List (Block A) → ℕ
 stop_at before beyond [] = before
 stop_at before beyond (b ∷ bs) = before + beyond + taken (b ∷ bs)
 
--- an acceptance takes only the blocks' tokens, and is committed if there are any, or if a block or the end is; a refusal keeps its kind
+-- an acceptance takes only the blocks' tokens, and is committed if there are any, or if a block or the end is; a refusal stays committed or peeked
 abbrev pub stopped_at : ℕ → Bool → Outcome (Unit {0}) → Outcome (Unit {0})
 stopped_at n k (Accepted t m j) = Accepted tt n (nat_lt 0 n || (k || j))
 stopped_at n k (Refused j) = Refused j

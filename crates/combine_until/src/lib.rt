@@ -1,4 +1,4 @@
-//! Repetitions up to the first place where another parser succeeds.
+//! Repetitions up to the first place where another parser isn't refused peeked.
 #![tactic(auto)]
 
 mod mute;

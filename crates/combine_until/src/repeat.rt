@@ -1,6 +1,6 @@
 //! Repetitions up to a place: the blocks before the first place where a parser `end` isn't refused peeked.
 //!
-//! If `end` is accepted there, its tokens are put back, and the result is accepted, committed exactly if a block or `end` was. Every other result of `end` there, or of the parser of the blocks, is the result: a refusal keeps its kind, also after committed blocks, and the tokens of the blocks may stay taken or not. combine loses the kind.
+//! If `end` is accepted there, its tokens are put back, and the result is accepted, committed exactly if a block or `end` was. Every other result of `end` there, or of the parser of the blocks, is the result: a refusal stays committed or peeked, even after committed blocks, and the tokens of the blocks may be taken or not. combine loses whether it is committed.
 //!
 //! On need of more the stream is put back to where the parser began, but nothing begins again. The state keeps the distance that was read, in tokens, the part of it before the running parser began, the blocks so far, and that parser's state. The next call skips the distance and goes on. combine puts back only the tokens of `end`.
 //!
@@ -41,7 +41,7 @@ use types::{
 ///
 /// # Differences from combine
 ///
-/// combine puts back only the tokens of `end`, and loses the kind of a refusal over a cut. It adds nothing to an error.
+/// combine puts back only the tokens of `end`, and over a cut loses whether a refusal is committed. It adds nothing to an error.
 ///
 /// # Examples
 ///
@@ -94,7 +94,7 @@ pub fn repeat_skip_until<A, P, E>(parser: P, end: E) -> SkipRepeatUntil<A, P, E>
 ///
 /// # Differences from combine
 ///
-/// combine puts back only the tokens of `end`, and loses the kind of a refusal over a cut. It adds nothing to an error.
+/// combine puts back only the tokens of `end`, and over a cut loses whether a refusal is committed. It adds nothing to an error.
 ///
 /// # Examples
 ///

@@ -10,7 +10,7 @@ use combine_base::error::ParseError;
 use combine_base::parser::Parser;
 use combine_base::stream::Stream;
 
-/// Each unsigned parser takes that many bytes, and its value is their sum.
+/// Each unsigned parser takes its number of bytes, and its value is the number of these bytes in its order.
 #[inline]
 pub fn unsigned_numbers<Input: Stream<Token = u8>>()
 where
@@ -23,7 +23,7 @@ where
     ensures le_u64 { MeansSame (⟦<LeU64<Input> as Parser<Input>>⟧.meaning number_parser) (takes_number Input.Error.observers 8 little_endian) }
 {}
 
-/// Each signed parser takes that many bytes, and its value is their sum in two's complement. That is the sum, less 256 to their number if the sum is at least half of that.
+/// Each signed parser takes its number of bytes, and its value is their number in two's complement. That is the unsigned number, less 256 to the number of bytes if it is at least half of that.
 #[inline]
 pub fn signed_numbers<Input: Stream<Token = u8>>()
 where

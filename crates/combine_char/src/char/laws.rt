@@ -15,7 +15,7 @@ use combine_base::error::ParseError;
 use combine_base::parser::Parser;
 use combine_base::stream::Stream;
 
-/// Each parser of a class takes one character of that set, and has that text as expected in errors.
+/// Each parser of a class takes one character of its set, and has its text as expected in errors.
 ///
 /// `crlf` is a carriage return and then a line feed, and `spaces` any number of `space`.
 #[inline]
