@@ -30,6 +30,7 @@ where
                 }
             }
         }
+        // These items end inside a token.
         items = items.saturating_sub(1);
     }
 }

@@ -109,6 +109,7 @@ impl ByteTest for Two {
 
     #[inline(always)]
     fn holds(&self, byte: u8) -> bool {
+        // `|` in place of `||`, so that a block is compared without branches.
         (byte == self.0) | (byte == self.1)
     }
 }
@@ -120,6 +121,7 @@ impl ByteTest for Three {
 
     #[inline(always)]
     fn holds(&self, byte: u8) -> bool {
+        // `|` as in `Two`.
         (byte == self.0) | (byte == self.1) | (byte == self.2)
     }
 }

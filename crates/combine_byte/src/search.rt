@@ -111,6 +111,7 @@ where
             TakeRange::Found(items) => match input.uncons_range(items) {
                 Ok(range) => {
                     if distance > 0 {
+                        // The range has the skipped items too.
                         return hand_out(start, position, input);
                     }
                     if items > 0 {

@@ -158,6 +158,7 @@ impl TurnBounds for ZeroOrMore {
         input: &Input,
     ) -> Option<TurnIndex> {
         if takes_token(index, committed, since, input) {
+            // The number of turns doesn't matter.
             return Some(TurnIndex::first());
         }
         None
@@ -248,6 +249,7 @@ impl<const MIN: usize> TurnBounds for FirstThenMore<MIN> {
         input: &Input,
     ) -> Option<TurnIndex> {
         if is_first_or_takes_token(index, committed, since, input) {
+            // After the first turn and `MIN` the number doesn't matter.
             return Some(index.next(if MIN < 1 { 1 } else { MIN }));
         }
         None

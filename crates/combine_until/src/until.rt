@@ -394,6 +394,7 @@ pub fn take_blocks<
         Ok(place) => place,
         Err(kind) => return ParseResult::CommitErr(input.new_error(lost(kind), position)),
     };
+    // From every kept state an acceptance with tokens is committed.
     let mut blocks = blocks.or_committed(before > 0);
     // The label names the loop's invariant.
     'turns: loop {

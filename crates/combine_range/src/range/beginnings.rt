@@ -60,6 +60,7 @@ where
                 return keep_distance(start, position, input, state);
             }
             if distance > 0 {
+                // The range has the skipped items too.
                 return hand_out(start, position, input);
             }
             if range.len() > 0 {
