@@ -26,7 +26,7 @@ use types::TakeFn;
 ///
 /// - `NotFound` in ended input is refused, peeked if the input is empty, and else committed, with an error of kind `End`.
 /// - Too few items for `Found(i)` in ended input are refused peeked, and so is an end inside a character.
-/// - The error of a refusal is where the call began, and has the end of input as unexpected. The error of an end inside a character has no items.
+/// - The error of a refusal is where the call began, and has the end of input as unexpected. The error of an end inside a character is empty.
 /// - Faults are `Lost`, if the input is shorter than the items to skip, `Read` and `Reset` of the stream, and `Memory` if an error finds none for its text.
 ///
 /// # Partial input

@@ -42,7 +42,7 @@ module _ {V E : Type 0} (says : E → Type 0) where
   pub record PeeksSaying (result : ParseResult V E) : Type 0 where
     pub is : peeks_saying result
 
--- for too few items the error has the end of input as unexpected; at an end inside a token it has no items
+-- for too few items the error has the end of input as unexpected; at an end inside a token it is empty
 abbrev pub says_why : {T R P E : Type 0} → Observers T R P E → P → Kind → E → Type 0
 says_why s place kinds.Refused e = New s kinds.Refused place e
 says_why s place kinds.End e = HasItems s kinds.End place (Only end_of_input) e

@@ -19,7 +19,7 @@ none_inside size us d e h = h.none 0 (record { within = omega arith; items = sym
 
 module _ {T R P E : Type 0} (s : Observers T R P E) where
   module _ {Q : Type 0} (size : T → ℕ) (spells : Q → List T → Type 0) where
-    -- for too few items the error has the end of input as unexpected; if the items end inside a token it has no items
+    -- for too few items the error has the end of input as unexpected; if the items end inside a token it is empty
     abbrev pub length_says : P → (n : ℕ) (v : View P T) → UnfitLength size spells n v → E → Type 0
     length_says place n v (Short few ended) e = HasItems s kinds.End place (Only end_of_input) e
     length_says place n v (Split inside) e = New s kinds.Refused place e
@@ -31,7 +31,7 @@ module _ {T R P E : Type 0} (s : Observers T R P E) where
       pub unfit : UnfitLength size spells n v
       pub says : length_says v.position n v unfit e
 
-    -- for another range the error has no items
+    -- for another range the error is empty
     abbrev pub differs_says : (w : Wanted Q) (v : View P T) → Differs size spells w v → E → Type 0
     differs_says w v (No u) e = length_says v.position w.items v u e
     differs_says w v (Other q k p t) e = New s kinds.Refused v.position e

@@ -23,7 +23,7 @@ use types::{Range, Recognize, RecognizeWithValue, Take, TakeUntilRange, TakeWhil
 /// # Errors
 ///
 /// - Other items are put back and refused peeked. Too few items of ended input, and an end inside a character, are refused peeked.
-/// - The error of a refusal is where the items begin. For too few items it has the end of input as unexpected, else no items.
+/// - The error of a refusal is where the items begin. For too few items it has the end of input as unexpected, else nothing.
 /// - Faults are `Read` and `Reset` of the stream, and `Memory` if an error finds none for its text.
 ///
 /// # Partial input
@@ -56,7 +56,7 @@ pub fn range<Input, R>(wanted: R) -> Range<Input, R>
 /// # Errors
 ///
 /// - Too few items of ended input are refused peeked, and so is an end inside a character, as soon as that many bytes are there.
-/// - The error is where the items begin. For too few items it has the end of input as unexpected, else no items.
+/// - The error is where the items begin. For too few items it has the end of input as unexpected, else nothing.
 /// - Faults are `Read` of the stream, and `Memory` if an error finds none for its text.
 ///
 /// # Partial input
@@ -130,7 +130,7 @@ pub fn take_while<Input, F>(predicate: F) -> TakeWhile<Input, F>
 ///
 /// # Errors
 ///
-/// The error is where the call began. If nothing is left of ended input, it is of kind `End` and has the end of input as unexpected; out of memory for that is the fault `Memory`. At a token it has no items. Faults are those of `take_while`.
+/// The error is where the call began. If nothing is left of ended input, it is of kind `End` and has the end of input as unexpected; out of memory for that is the fault `Memory`. At a token it is empty. Faults are those of `take_while`.
 ///
 /// # Examples
 ///

@@ -10,7 +10,7 @@ use Rattle.combine_base.specs.declared.error.result.ParseResult.TheVariants.{Com
 use Rattle.combine_byte.specs.Search.Searches.{Search, UnfitSearch, Absent, Short, Inner, Split}
 
 module _ {T R P Q E : Type 0} (observers : Observers T R P E) (step : P → T → P) (size : T → ℕ) (spells : Q → List T → Type 0) (s : Search T) where
-  -- where no place is found, or too few items are left, the error has the end of input as unexpected; where items end inside a token it has no items
+  -- where no place is found, or too few items are left, the error has the end of input as unexpected; where items end inside a token it is empty
   abbrev pub unfound_says : (d : ℕ) (v : View P T) (committed : Bool) → UnfitSearch size spells s d v committed → E → Type 0
   unfound_says d v committed (Absent m o c) e = HasItems observers kinds.End v.position (Only end_of_input) e
   unfound_says d v committed (Short b o c) e = HasItems observers kinds.End v.position (Only end_of_input) e

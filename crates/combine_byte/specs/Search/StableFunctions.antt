@@ -77,7 +77,7 @@ module _ {T R : Type 0} (size : T → ℕ) (spells : R → List T → Type 0) (a
       not_both = λ us i p q. let a = found_is us i p in let b = (missing_is us q).1 in cc;
     }
 
-    -- and if the function has a result for some range of these tokens, the place is found
+    -- and if every list of tokens has a range with that result, the place is found
     module _ (some : (us : List T) → (r : R) × spells r us × answers r (f us)) where
       pub is_found : (us : List T) (i : ℕ) → f us ≡ Found i → (asking size spells answers).found us i
       is_found us i e = let s = some us in found_now size spells answers us s.0 s.1 i (subst (answers s.0) e s.2)
