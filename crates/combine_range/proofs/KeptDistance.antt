@@ -85,7 +85,7 @@ module _ {P T R A E : Type 0} (w : World P T Distance E) (size : T → ℕ) (rea
       by_result (CommitErr e) z = breaks (w.kind e) e g refl z.0 x y z.1 l
       by_result (PeekErr e) z = absurd z
 
-  -- need of more, with its distance kept, or without it if the stream could not be put back
+  -- need of more with its distance kept, or a fault if the stream could not be put back
   pub distance_asks_from : (n : ℕ) (state : Distance) (mid : View P T) (g : Failures) (result : ParseResult A E) → KeepsItemDistance w.counts_failures w.step size r.old r.new g r.after n w.kind state r.left result → Takes w.step n r.old mid → w.fresh state → r.before.reads ≤ g.reads → r.before.resets ≤ g.resets → (w.counts_failures → g ≡ r.before) → r.old.is_open ≡ true → read d r.old Undecided → ((k : ℕ) → k ≡ size_of size (take n r.old.unread) → (y : List T) (b : Bool) (o : Outcome A) → read k (extended y b r.old) o → read d (extended y b r.old) o) → Answers w whole r result
   distance_asks_from n state mid g result k t l x y f o u h = by_result result k.is
     where

@@ -169,7 +169,7 @@ pub fn count_min_max<F, P>(alloc: Global, min: usize, max: usize, parser: P) -> 
 
 /// Runs turns as `count_min_max` does, and drops the values.
 ///
-/// `min` has to be at most `max`. It allocates nothing but an error's message.
+/// `min` has to be at most `max`. It allocates nothing of its own but an error's message.
 #[inline]
 pub fn skip_count_min_max<P>(min: usize, max: usize, parser: P) -> SkipCountMinMax<P>
     requires { min ≤ max }
@@ -199,7 +199,7 @@ pub fn count<F, P>(alloc: Global, count: usize, parser: P) -> Count<F, P>
 
 /// Runs turns as `count` does, and drops the values.
 ///
-/// It allocates nothing but an error's message.
+/// It allocates nothing of its own but an error's message.
 #[inline]
 pub fn skip_count<P>(count: usize, parser: P) -> SkipCount<P>
     ensures { result ≡ skip_count_min_max_of 0 count parser }

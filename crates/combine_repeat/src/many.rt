@@ -95,7 +95,7 @@ pub fn many1<F, P>(alloc: Global, parser: P) -> Many1<F, P>
 
 /// Runs `parser` as `many` does, and drops the values.
 ///
-/// It allocates nothing but an error's message.
+/// It allocates nothing of its own but an error's message.
 ///
 /// # Examples
 ///
@@ -115,7 +115,7 @@ pub fn skip_many<P>(parser: P) -> SkipMany<P>
 
 /// Runs `parser` as `many1` does, and drops the values.
 ///
-/// It allocates nothing but an error's message.
+/// It allocates nothing of its own but an error's message.
 #[inline]
 pub fn skip_many1<P>(parser: P) -> SkipMany1<P>
     ensures { result ≡ skip_many1_of parser }

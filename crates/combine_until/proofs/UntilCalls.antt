@@ -372,7 +372,7 @@ module _ {P T R A V S E : Type 0} (w : World P T S E) (errors : Observers T R P 
     broken kinds.Memory h x y l = absurd h
     broken kinds.Lost h x y l = absurd h
 
-    -- need of more, with its distances kept, or without them if they couldn't be measured
+    -- need of more with its distances kept, or a fault if they couldn't be measured
     pub until_more : (marked begins stood : View P T → Type 0) (n : Blocks V) (e : E) (given : UntilState V S) (result : ParseResult V E) → BlockNeedsMore w m c r marked b n e → begins u.old → stood place → KeepsBlocks w.counts_failures w.step w.kind begins stood r.new u.new r.after u.after n r.left e given u.left result → given ≡ Begin → r.before.reads ≤ r.after.reads → r.before.resets ≤ r.after.resets → Answers (around w until_fresh) (until w.step errors c m) u result
     until_more marked begins stood n e given result p i j h k x y = by_kept (h.is u.old place z.before (z.beyond + a.count) i j z.there (takes_more w.step z.beyond a.count place r.old r.new z.on a.taken))
       where

@@ -116,7 +116,7 @@ module _ {P T R A V S E : Type 0} (step : P → T → P) (errors : Observers T R
   abbrev says : Bool → E → Type 0
   says = begun_refuses (until step errors c m) first given old new
 
-  -- need of more, with its distances kept, or without them if they couldn't be measured
+  -- need of more with its distances kept, or a fault if they couldn't be measured
   more_reasons : (begins stood : View P T → Type 0) (n : Blocks V) (e : E) (none left : UntilState V S) (result : ParseResult V E) → BlockNeedsMore part m c r marked b n e → KeepsBlocks counts_failures step errors.kind begins stood r.new new r.after after n r.left e none left result → (place : View P T) → begins old → stood place → (before beyond : ℕ) → Takes step before old place → Takes step beyond place r.old → Reasoned errors.kind new.is_open says result
   more_reasons begins stood n e none left result p h place i j before beyond there on = by_kept (h.is old place before (beyond + a.count) i j there all)
     where

@@ -6,7 +6,7 @@
 //!
 //! Faults are those of the parsers, `Reset` if the stream can't be put back, `Read` if the distance can't be read again, `Lost` if the input is shorter than a kept distance, and `Memory` if the collection can't grow.
 //!
-//! The values are collected in any `F: Append`, for which the constructors take an allocator first; combine takes `F: Extend + Default`, and no allocator. The skipping forms drop the values, and allocate nothing but an error's items.
+//! The values are collected in any `F: Append`, for which the constructors take an allocator first; combine takes `F: Extend + Default`, and no allocator. The skipping forms drop the values, and allocate nothing of their own but an error's items.
 ghost use Rattle.std.specs.Prelude.{◌≡◌};
 ghost use Rattle.combine_until.specs.UntilParsers.{repeat_skip_until_of, repeat_until_of, skip_until_of, take_until_of};
 
@@ -66,7 +66,7 @@ pub fn repeat_until<F, A, P, E>(alloc: Global, parser: P, end: E) -> RepeatUntil
 
 /// Runs `parser` as `repeat_until` does, and drops the values.
 ///
-/// It allocates nothing but an error's items.
+/// It allocates nothing of its own but an error's items.
 #[inline]
 pub fn repeat_skip_until<A, P, E>(parser: P, end: E) -> SkipRepeatUntil<A, P, E>
     ensures { result ≡ repeat_skip_until_of parser end }
@@ -118,7 +118,7 @@ pub fn take_until<F, Input, T, E>(alloc: Global, end: E) -> TakeUntil<F, Input, 
 
 /// Takes tokens as `take_until` does, and drops them.
 ///
-/// It allocates nothing but an error's items.
+/// It allocates nothing of its own but an error's items.
 #[inline]
 pub fn skip_until<Input, T, E>(end: E) -> SkipUntil<Input, T, E>
     ensures { result ≡ skip_until_of end }
