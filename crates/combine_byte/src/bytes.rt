@@ -11,7 +11,7 @@ use combine_stream::position::{SliceStream, TextStream};
 use combine_stream::range::{ByteRange, Range, RangeStream};
 use combine_stream::{Faulty, MaybePartialStream, Unfailing};
 
-/// A stream whose ranges are bytes, some for each token. Our own: the crate asks for bytes of ranges alone.
+/// A stream whose ranges are bytes, some for each token. Our own: combine requires bytes only of ranges.
 pub trait ByteStream: RangeStream
 where
     Self::Range: ByteRange,
@@ -116,16 +116,16 @@ where
     ghost spelled = { S.spelled };
 }
 
-/// What a search for bytes looks for.
+/// The bytes that a search looks for.
 pub trait Pattern {
-    /// So many bytes, and a test of them.
+    /// The number of these bytes, and a test of them.
     ghost wanted: { Self → Wanted (List ℕ) };
 
-    /// Returns the first place where they stand.
+    /// Returns the first place of these bytes.
     fn find(&self, bytes: &[u8]) -> Option<usize>
         ensures { FindsBytes (wanted self.now) bytes.now result };
 
-    /// Returns how many bytes they are.
+    /// Returns the number of these bytes.
     fn len(&self) -> usize
         ensures { result ≡ (wanted self.now).items };
 }
@@ -150,7 +150,7 @@ impl<T: ByteTest> Pattern for ByteOf<T> {
     }
 }
 
-/// Bytes in a row.
+/// A sequence of bytes.
 #[derive(Clone, Copy)]
 pub struct Needle<'a>(pub(crate) &'a [u8]);
 

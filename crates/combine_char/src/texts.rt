@@ -3,7 +3,7 @@ ghost use Rattle.std.specs.Prelude.{codes};
 
 use crate::class::Text;
 
-/// What `crlf` says was expected.
+/// The text of `crlf`.
 #[derive(Drop)]
 pub struct CrLf;
 
@@ -15,7 +15,7 @@ impl Text for CrLf {
     }
 }
 
-/// What `spaces` says was expected.
+/// The text of `spaces`.
 #[derive(Drop)]
 pub struct Spaces;
 

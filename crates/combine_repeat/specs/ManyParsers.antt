@@ -1,4 +1,4 @@
--- the parsers that the constructors build
+-- the parsers that the constructors return
 use Rattle.std.specs.declared.alloc.Global.{Global}
 use Rattle.combine_repeat.specs.Repeat.RepeatParsers.{each_of, repeat_of}
 use Rattle.combine_repeat.specs.declared.each.Dropped.{Dropped}

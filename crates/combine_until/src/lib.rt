@@ -1,4 +1,4 @@
-//! Repetitions up to a place.
+//! Repetitions up to the first place where another parser isn't refused peeked.
 #![tactic(auto)]
 
 mod mute;

@@ -1,4 +1,4 @@
-//! The parser that the function of `range` returns.
+//! The parser that `length_prefix` returns.
 
 pub use super::prefix::{AsLength, Taking};
 use combine_combinator::combinator::types::NoPartial;
@@ -7,7 +7,7 @@ use combine_sequence::sequence::types::Answered;
 
 /// The parser of [`length_prefix`](crate::length_prefix::length_prefix), with the stream's ranges as `R`.
 ///
-/// It is no type of its own, but one that is composed of others.
+/// It is an alias, composed of other parsers.
 pub type LengthPrefix<Input, P, R> = NoPartial<
     Answered<Changed<P, AsLength, usize>, Taking<Input>, R>,
 >;

@@ -1,4 +1,4 @@
-//! The parsers of uncounted repetitions.
+//! Names of [`Repeat`](crate::counts::Repeat) for the functions of this module.
 use crate::bounds::{FirstThenMore, ZeroOrMore};
 use crate::counts::Repeat;
 use crate::each::{Dropped, Each};
