@@ -40,7 +40,7 @@ impl ParseMode for FirstMode {
     fn set_first(&mut self) {}
 }
 
-/// A call that goes on from the kept state, until `first` is set.
+/// A call that continues from the kept state, until `first` is set.
 #[derive(Clone, Copy, Default)]
 pub struct PartialMode {
     /// Set if the call begins afresh after all.
@@ -230,7 +230,7 @@ pub trait Parser<Input: Stream>: Outputs<Input> {
         self.parse_mode(FirstMode, input, state)
     }
 
-    /// Continues from the kept state; a default one begins.
+    /// Continues from the kept state, where a default one begins.
     final fn parse_partial(
         &mut self,
         input: &mut Input,
@@ -316,7 +316,7 @@ pub trait Parser<Input: Stream>: Outputs<Input> {
 
     /// Parses from the start, and returns the value and the rest of the input.
     ///
-    /// If the caller's functions depend on their arguments alone (`determined`), the outcome is the only one by its shape: acceptance or refusal, commitment, and number of tokens. Its value is any that the meaning allows.
+    /// If the caller's functions depend on their arguments alone (`determined`), the outcome is the only one by its shape: accepted, refused or undecided, committed or not, and the number of tokens. Its value is any that the meaning allows.
     ///
     /// # Errors
     ///

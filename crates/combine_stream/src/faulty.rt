@@ -62,7 +62,7 @@ enum Due {
 }
 
 impl Due {
-    // Makes the call with that number fail, from 1; none for 0.
+    // Returns when a call fails, by its number from 1; 0 is for none.
     fn at(number: u64) -> Due
         ensures { result ≡ due_at number }
     {

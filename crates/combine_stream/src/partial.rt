@@ -1,4 +1,4 @@
-//! A stream that may go on.
+//! A stream with a flag for whether it is open.
 ghost use Rattle.std.specs.Prelude.{◌≡◌};
 
 use crate::range::{Range, RangeStream};

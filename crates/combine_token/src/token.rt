@@ -123,7 +123,7 @@ pub fn satisfy_map<Input, F>(predicate: F) -> SatisfyMap<Input, F>
     }
 }
 
-/// Parses a token that equals this one, and returns it.
+/// Parses a token that equals `token`, and returns it.
 ///
 /// The value is the token of the input.
 ///
@@ -131,7 +131,7 @@ pub fn satisfy_map<Input, F>(predicate: F) -> SatisfyMap<Input, F>
 ///
 /// # Errors
 ///
-/// Another token is put back and refused peeked, as is the end of ended input. The expected item is this token.
+/// Another token is put back and refused peeked, as is the end of ended input. The expected item is `token`.
 ///
 /// # Partial input
 ///

@@ -14,7 +14,7 @@ use combine_base::parser::Parser;
 use combine_base::stream::{Stream, fed};
 use std::alloc::Global;
 
-/// The law that more tokens only add messages: first come those of the tokens before, then those of the ones left unread and the rest.
+/// The law that adding tokens keeps the messages, after which come those of the tokens left over and the added ones.
 pub fn messages_go_on<F: Maker<Output = P>, P: Parser<fed::Stream<T>>, T: Copy + 'static>(maker: &F)
     requires { IsMade (F.returns maker.now) P.lawful }
     ensures { GoOn (made_reading P.meaning (F.returns maker.now)) }

@@ -12,7 +12,7 @@ use combine_base::stream::{Kind, Stream};
 
 /// Reads a token (`Some`) or the end of ended input (`None`), under a test. Our own.
 ///
-/// If the test returns a value, it is the value: a token is taken and accepted committed, the end accepted peeked.
+/// If the test returns a value, this is the parser's: a token is taken and accepted committed, and the end is accepted peeked.
 ///
 /// # Errors
 ///
