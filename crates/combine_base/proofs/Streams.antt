@@ -1,4 +1,4 @@
--- streams: tokens passed over, and what positions tell
+-- streams: tokens passed over, and positions
 pub mod Distances
 pub mod FirstCharacter
 pub mod Movement

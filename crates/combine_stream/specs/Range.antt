@@ -1,4 +1,4 @@
--- streams that hand out ranges
+-- streams that return ranges
 pub mod Measures
 pub mod Ranges
 pub mod TextRanges

@@ -1,27 +1,27 @@
-//! What errors speak of.
+//! The contents of an error's items.
 ghost use Rattle.std.specs.Prelude.{◌≡◌, MatchResult};
 ghost use Rattle.combine_base.specs.Error.Items.{NoText, shown};
 
 use std::alloc::AllocError;
 use std::string::String;
 
-/// What an item speaks of.
+/// The contents of an error's item.
 #[derive(Debug, PartialEq, Drop)]
 pub enum Info<T, R> {
     /// A token.
     Token(T),
     /// A range of tokens.
     Range(R),
-    /// A fixed text, which takes no memory.
+    /// A fixed text, which allocates nothing.
     Static(&'static str),
-    /// A text of its own.
+    /// An owned text.
     Owned(String),
-    /// How many elements are missing. Our own.
+    /// A number of missing elements. Our own.
     More(usize),
 }
 
 impl<T: Copy, R: Copy> Info<T, R> {
-    /// Returns an info that speaks of the same; a text of its own is cloned, which takes memory.
+    /// Returns a copy. An owned text is cloned, which allocates.
     pub fn copied(&self) -> Result<Info<T, R>, AllocError>
         ensures { MatchResult result (λ i. shown i ≡ shown self.now) (λ _. NoText self.now → ⊥) }
     {

@@ -1,4 +1,4 @@
-//! Errors that are a kind alone.
+//! Errors that have only a kind.
 ghost use Rattle.std.specs.Prelude.{◌≡◌, [], false};
 ghost use Rattle.combine_base.specs.Error.NoItems.{no_items, no_items_apart};
 ghost use Rattle.combine_base.specs.Error.Items.{Unexpected, Expected, Message, shown, end_of_input};
@@ -8,7 +8,7 @@ use crate::error::{DetailedError, Info, ParseError, Role, StreamError};
 use crate::stream::Kind;
 use std::alloc::AllocError;
 
-/// An error that is a kind alone, and takes no memory.
+/// An error that has only a kind, and allocates nothing.
 #[derive(Clone, Copy, Debug, PartialEq, Eq)]
 pub struct UnexpectedParse(pub Kind);
 

@@ -1,4 +1,4 @@
-//! A parser behind a reference.
+//! References to parsers, as parsers.
 
 use crate::error::{ErrorOffset, ParseResult, Tracked};
 use crate::parser::{Outputs, ParseMode, Parser};

@@ -1,4 +1,4 @@
-//! The parts before those of a longer tuple, lent.
+//! The first parts of a longer tuple, borrowed.
 ghost use Rattle.std.specs.Prelude.{◌≡◌, refl};
 ghost use Rattle.combine_base.specs.Sequence.Places.{begins_4, begins_valid_4, first_fresh, valid_4};
 ghost use Rattle.combine_base.specs.Sequence.Tuples.{tuple_4, tuple_4_is_meaning};
@@ -9,7 +9,7 @@ use crate::sequence::PartialState4;
 use crate::sequence::tuple::{State4, parse_4};
 use crate::stream::Stream;
 
-/// Parts that were lent, and that run before another one.
+/// Borrowed parts, which run before another one.
 pub(super) trait Front<Input: Stream> {
     ghost use Rattle.std.specs.Prelude.{◌≡◌, false, true};
     ghost use Rattle.combine_base.specs.Parser.Meaning.{Meaning, IsMeaning, MeansSame};
@@ -21,31 +21,31 @@ pub(super) trait Front<Input: Stream> {
     /// The values of the parts.
     type Output: Drop;
 
-    /// What is kept of the parts.
+    /// The kept state of the parts.
     type State: Drop;
 
-    /// What a call needs of the parts.
+    /// The precondition of a call of the parts.
     ghost lawful: { Self → Type 0 };
 
-    /// The states that a call may be given.
+    /// The states that a call may get.
     ghost valid: { Self.State → Type 0 };
 
     /// The states that begin the parts.
     ghost fresh: { Self.State → Type 0 };
 
-    /// What the parts mean.
+    /// The meaning of the parts.
     ghost meaning: { Self → Meaning Input.Position Input.Token Input.Range Input.Error Self.Output Self.State };
 
-    /// The same parts are lent.
+    /// Whether the same parts are borrowed.
     ghost same: { Self → Self → Type 0 };
 
     /// Returns a state that begins the parts.
     fn begin() -> Self::State
         ensures { fresh result };
 
-    /// Runs the parts, from what is kept of them.
+    /// Runs the parts, from their kept state.
     ///
-    /// Need of more is kept in `state`, and every other result leaves one that begins the parts, as it was.
+    /// After need of more `state` is the kept state; every other result leaves it as it was, one that begins the parts.
     fn run<M: ParseMode>(
         &mut self,
         mode: M,
