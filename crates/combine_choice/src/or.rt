@@ -101,7 +101,7 @@ pub fn optional<P>(parser: P) -> Optional<P>
     Optional(parser)
 }
 
-/// Law: `or` is associative.
+/// `or` is associative.
 ///
 /// On every list `or(or(a, b), c)` and `or(a, or(b, c))` have the same outcomes from the start; they leave tokens unread and allocate alike, and add the same items to an error. The call does nothing; its contract is the law.
 pub fn or_is_associative<

@@ -353,7 +353,7 @@ fn drain<F: Maker<Output = P>, P: Parser<fed::Stream<T>> + Drop, T: Copy + 'stat
     let mut messages = Vec::new(alloc);
     let mut answer = first;
     let mut behind = *waiting;
-    // the label names the invariant
+    // The label names the loop's invariant.
     'messages: loop {
         match answer {
             Answer::More => {

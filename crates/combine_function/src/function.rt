@@ -13,7 +13,7 @@ use types::{Called, EnvParser, FnParser, WithEnv, WithoutEnv};
 ///
 /// No items are added to errors.
 ///
-/// # Laws of the function
+/// # Requirements on the function
 ///
 /// It has to keep the laws of a parser:
 ///

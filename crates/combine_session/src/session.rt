@@ -248,7 +248,7 @@ pub fn parse_pieces<P: Parser<fed::Stream<T>> + Drop, T: Copy + 'static>(
     ensures { ParsesPieces (P.meaning parser).whole (P.meaning parser).heapless (map (λ p. p.now) pieces.now) result }
 {
     let mut session = Session::new(alloc, parser);
-    // the label names the invariant
+    // The label names the loop's invariant.
     'pieces: for piece in pieces {
         match session.feed(piece) {
             Ok(answer) => match answer {

@@ -51,7 +51,7 @@ pub fn decode_pieces<
 {
     let mut decoder = Decoder::new(alloc, maker);
     let mut messages = Vec::new(alloc);
-    // the label names the invariant
+    // The label names the loop's invariant.
     'pieces: for piece in pieces {
         match feed_more(&mut decoder, piece, &mut messages) {
             Ok(end) => match end {
@@ -97,7 +97,7 @@ fn feed_more<F: Maker<Output = P>, P: Parser<fed::Stream<T>> + Drop, T: Copy + '
 fn append<V: Drop>(messages: &mut Vec<V>, more: Vec<V>) -> Result<(), AllocError>
     ensures { MatchResult result (λ _. messages.new.items ≡ messages.old.items ++ more.items) (λ _. Unit {0}) }
 {
-    // the label names the invariant
+    // The label names the loop's invariant.
     'more: for message in more {
         messages.push(message)?;
     }

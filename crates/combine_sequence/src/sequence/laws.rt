@@ -7,7 +7,7 @@ use crate::sequence::types::{Between, Skip, With};
 use combine_base::parser::Parser;
 use combine_base::stream::Stream;
 
-/// Law: `with` is the pair, with its second value.
+/// `with` is the pair, with its second value.
 #[inline]
 pub fn with_has_the_second_value<
     Input: Stream,
@@ -17,7 +17,7 @@ pub fn with_has_the_second_value<
     ensures { MeansSame (⟦<With<P, Q, P::Output> as Parser<Input>>⟧.meaning (picked_of (p.now, q.now))) (second_value Input.step Input.Error.observers (P.meaning p.now) (Q.meaning q.now)) }
 {}
 
-/// Law: `skip` is the pair, with its first value.
+/// `skip` is the pair, with its first value.
 #[inline]
 pub fn skip_has_the_first_value<
     Input: Stream,
@@ -27,7 +27,7 @@ pub fn skip_has_the_first_value<
     ensures { MeansSame (⟦<Skip<P, Q, P::Output> as Parser<Input>>⟧.meaning (picked_of (p.now, q.now))) (first_value Input.step Input.Error.observers (P.meaning p.now) (Q.meaning q.now)) }
 {}
 
-/// Law: `between` is the triple of the left, the inner and the right parser, with its second value.
+/// `between` is the triple of the left, the inner and the right parser, with its second value.
 #[inline]
 pub fn between_has_the_inner_value<
     Input: Stream,

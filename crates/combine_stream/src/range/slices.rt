@@ -81,7 +81,7 @@ pub(crate) fn count_while<T: Copy, F: Function<T, Output = bool>>(tokens: &[T], 
 {
     let mut n = 0;
     let mut rest = tokens;
-    // the label names the invariant
+    // The label names the loop's invariant.
     'walk: loop {
         match rest.split_at_checked(BLOCK) {
             Some((block, behind)) => {

@@ -77,7 +77,7 @@ where
     requires ends { IsFinite (I.remaining items) }
     ensures { FindsAmong I.next_gives (λ x. I.Item.eq x token) items result }
 {
-    // the label names the invariant
+    // The label names the loop's invariant.
     'items: for item in items {
         if item == token {
             return true;
@@ -94,7 +94,7 @@ where
     requires ends { IsFinite (I.remaining items) }
     ensures { AddsItems E.observers (Unit {0}) (ExpectsEach I.next_gives items) error.old error.new }
 {
-    // the label names the invariant
+    // The label names the loop's invariant.
     'items: for item in items {
         error.add_expected(&Info::Token(item));
     }

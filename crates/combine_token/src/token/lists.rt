@@ -111,7 +111,7 @@ where
         Ok(()) => {}
         Err(count) => return accepted(value, count > 0, position, input),
     }
-    // the label names the invariant
+    // The label names the loop's invariant.
     'items: for item in items {
         match input.uncons() {
             Ok(token) => {

@@ -23,7 +23,7 @@ where
     ensures gave { MatchResult result (λ _. Gave I.next_gives n items.old items.new) (λ m. (m < n) × GaveAll I.next_gives m items.old) }
     ensures left { MatchResult result (λ _. I.can_next items.new × IsFinite (I.remaining items.new) × (n + size (I.remaining items.new) ≤ size (I.remaining items.old))) (λ _. Unit {0}) }
 {
-    // the label names the invariant
+    // The label names the loop's invariant.
     'items: for passed in 0..n {
         let Some(_item) = items.next() else {
             return Err(passed);
