@@ -1,4 +1,4 @@
--- The definitions that contracts cite, under this crate's name.
+-- The words of the contracts, under this crate's name.
 pub use Rattle.combine_base.specs.Parser.Answer
 pub use Rattle.combine_base.specs.Parser.AnswersCalls
 pub use Rattle.combine_base.specs.Parser.GivenValues

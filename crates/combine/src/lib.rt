@@ -1,13 +1,13 @@
-//! Proved parser combinators: the parser layer of combine, for Rattle.
+//! Parser combinators that are proved: the parser layer of combine, for Rattle.
 //!
-//! The names at combine's root are at this root too: `use combine::{Parser, many1, sep_by, token}`. All others are under combine's module names:
+//! The names that the crate has at its root stand there too: `use combine::{Parser, many1, sep_by, token}`. All else stands under its module names:
 //!
-//! - Streams in `stream`, results and errors in `error`, readable errors in `easy`.
-//! - `Parser`, its drivers and sessions in `parser`, and decoders of messages in `decode`.
+//! - Streams in `stream`, results and errors in `error`, errors that people can read in `easy`.
+//! - The protocol, its drivers and sessions in `parser`, and decoders of messages in `decode`.
 //! - Grammars that nest in `nested`, and expressions of operators in `expression`.
 //! - The constructors in `parser::{token, char, byte, range, choice, sequence, combinator, repeat, function, error}`.
 //!
-//! `ParserExt` has the method forms. `struct_parser!` makes a struct of the values of several parsers, `choice!` is a choice of any number of parsers, and `dispatch!` chooses a parser by a value.
+//! `ParserExt` has the method forms. `struct_parser!` makes a struct of the values of several parsers, `choice!` is the choice of as many as are wanted, and `dispatch!` the parser that a value names.
 #![tactic(auto)]
 
 mod methods;

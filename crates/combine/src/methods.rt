@@ -25,13 +25,13 @@ use combine_repeat::iter::Iter;
 use combine_sequence::sequence;
 use combine_sequence::sequence::types::{Skip, Then, ThenPartial, ThenRef, With};
 
-/// The method forms of the constructors, for every parser.
+/// The method forms of the constructors, which every parser has.
 ///
-/// Each has the meaning of the constructor of the same name.
+/// Each means the constructor of the same name.
 ///
-/// In combine they are methods of `Parser` itself.
+/// In the crate they are methods of `Parser` itself.
 pub trait ParserExt<Input: Stream>: Parser<Input> {
-    /// Borrows the parser, with the same meaning.
+    /// Lends the parser, which means what it means.
     final fn by_ref(&mut self) -> &mut Self
     where
         Self: Sized,
@@ -43,7 +43,7 @@ pub trait ParserExt<Input: Stream>: Parser<Input> {
 
     /// Runs this parser and then another.
     ///
-    /// The value is the pair of their values.
+    /// The value is the pair of both values.
     final fn and<Q>(self, other: Q) -> (Self, Q)
     where
         Self: Sized,
@@ -52,7 +52,7 @@ pub trait ParserExt<Input: Stream>: Parser<Input> {
         (self, other)
     }
 
-    /// Runs this parser and then another, and returns the other's value.
+    /// Runs this parser and then another, with the value of the other.
     final fn with<Q, B>(self, other: Q) -> With<Self, Q, B>
     where
         Self: Sized,
@@ -61,7 +61,7 @@ pub trait ParserExt<Input: Stream>: Parser<Input> {
         sequence::with(self, other)
     }
 
-    /// Runs this parser and then another, and returns this one's value.
+    /// Runs this parser and then another, with the value of this one.
     final fn skip<Q, A>(self, other: Q) -> Skip<Self, Q, A>
     where
         Self: Sized,
@@ -70,7 +70,7 @@ pub trait ParserExt<Input: Stream>: Parser<Input> {
         sequence::skip(self, other)
     }
 
-    /// Runs this parser, then the one that the function returns for its value.
+    /// Runs this parser and then the one that the function returns for its value.
     final fn then<F, B>(self, f: F) -> Then<Self, F, B>
     where
         Self: Sized,
@@ -79,7 +79,7 @@ pub trait ParserExt<Input: Stream>: Parser<Input> {
         sequence::then(self, f)
     }
 
-    /// Runs this parser, then the one that the function returns for a mutable reference to its value.
+    /// Runs this parser and then the one that the function returns for a mutable reference to its value.
     final fn then_partial<F, B>(self, f: F) -> ThenPartial<Self, F, B>
     where
         Self: Sized,
@@ -88,9 +88,9 @@ pub trait ParserExt<Input: Stream>: Parser<Input> {
         sequence::then_partial(self, f)
     }
 
-    /// Runs this parser, then the one that the function returns for a reference to its value.
+    /// Runs this parser and then the one that the function returns for a reference to its value.
     ///
-    /// The value is the pair of their values.
+    /// The value is the pair of both values.
     final fn then_ref<F, B>(self, f: F) -> ThenRef<Self, F, B>
     where
         Self: Sized,
@@ -99,7 +99,7 @@ pub trait ParserExt<Input: Stream>: Parser<Input> {
         sequence::then_ref(self, f)
     }
 
-    /// Runs this parser, and then the other if it is refused peeked.
+    /// Runs this parser, or the other where it is refused peeked.
     final fn or<Q>(self, other: Q) -> Or<Self, Q>
     where
         Self: Sized,
@@ -126,7 +126,7 @@ pub trait ParserExt<Input: Stream>: Parser<Input> {
         Either::Right(self)
     }
 
-    /// Changes or refuses this parser's value by a function, whose error becomes an item.
+    /// Changes or refuses the value of this parser by the function, which returns what its error says.
     final fn and_then<F, B>(self, f: F) -> AndThen<Self, F, B>
     where
         Self: Sized,
@@ -135,7 +135,7 @@ pub trait ParserExt<Input: Stream>: Parser<Input> {
         changes::and_then(self, f)
     }
 
-    /// Changes or refuses this parser's value by a function, which returns the stream's error.
+    /// Changes or refuses the value of this parser by the function, which returns the error.
     final fn flat_map<F, B>(self, f: F) -> FlatMap<Self, F, B>
     where
         Self: Sized,
@@ -144,7 +144,7 @@ pub trait ParserExt<Input: Stream>: Parser<Input> {
         changes::flat_map(self, f)
     }
 
-    /// Changes this parser's value by a function of the value and the stream.
+    /// Changes the value of this parser by the function, which is given the stream too.
     final fn map_input<F, B>(self, f: F) -> MapInput<Self, F, B>
     where
         Self: Sized,
@@ -153,7 +153,7 @@ pub trait ParserExt<Input: Stream>: Parser<Input> {
         changes::map_input(self, f)
     }
 
-    /// Adds a message to the refusals of this parser.
+    /// Adds this to what the refusals of this parser say.
     final fn message<I>(self, info: I) -> Message<Self, Info<Input::Token, Input::Range>>
     where
         Self: Sized,
@@ -163,7 +163,7 @@ pub trait ParserExt<Input: Stream>: Parser<Input> {
         error::message(self, info)
     }
 
-    /// Replaces the expected items of this parser's errors by one.
+    /// Says in errors of this parser that this was expected.
     final fn expected<I>(self, info: I) -> Expected<Self, Info<Input::Token, Input::Range>>
     where
         Self: Sized,
@@ -173,7 +173,7 @@ pub trait ParserExt<Input: Stream>: Parser<Input> {
         error::expected(self, info)
     }
 
-    /// Removes the expected items from this parser's refusals.
+    /// Keeps errors of this parser from saying what was expected.
     final fn silent(self) -> Silent<Self>
     where
         Self: Sized,
@@ -182,7 +182,7 @@ pub trait ParserExt<Input: Stream>: Parser<Input> {
         error::silent(self)
     }
 
-    /// Sets the errors of this parser's refusals at the span that it read.
+    /// Makes the errors of this parser's refusals stand at the span that it read.
     final fn spanned(self) -> Spanned<Self>
     where
         Self: Sized,
@@ -191,7 +191,7 @@ pub trait ParserExt<Input: Stream>: Parser<Input> {
         spans::spanned(self)
     }
 
-    /// Changes this parser's value by a function.
+    /// Changes the value of this parser by the function.
     final fn map<F, B>(self, f: F) -> Map<Self, F, B>
     where
         Self: Sized,
@@ -200,9 +200,9 @@ pub trait ParserExt<Input: Stream>: Parser<Input> {
         combinator::map(self, f)
     }
 
-    /// Iterates over this parser's values, one after another, on a borrowed stream with a borrowed state.
+    /// Gives the values of this parser, one after another, on a stream that is lent, with a state that is lent.
     ///
-    /// The first turn begins afresh. The parser has to be lawful, and the state valid.
+    /// The first turn begins afresh. The parser is lawful, and the state one that it keeps.
     ///
     /// # Examples
     ///
@@ -234,9 +234,9 @@ pub trait ParserExt<Input: Stream>: Parser<Input> {
         self.partial_iter(FirstMode, input, state)
     }
 
-    /// Iterates over this parser's values, one after another, on a borrowed stream with a borrowed state.
+    /// Gives the values of this parser, one after another, on a stream that is lent, with a state that is lent.
     ///
-    /// The first turn begins afresh or goes on from the state, by the mode. The parser has to be lawful, and the state valid.
+    /// The first turn begins afresh or goes on from the state, as the mode says. The parser is lawful, and the state one that it keeps.
     final fn partial_iter<'a, M: ParseMode>(
         self,
         mode: M,

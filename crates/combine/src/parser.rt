@@ -1,4 +1,4 @@
-//! `Parser` and its drivers, and the constructors by module.
+//! The protocol of parsers, and their constructors by module.
 
 pub mod byte;
 pub mod choice;

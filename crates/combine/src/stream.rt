@@ -1,4 +1,4 @@
-//! Streams, the input of parsers. Slices and texts are streams; `fed::Stream` is fed piece by piece, `position::Stream` has a position, `span::Stream` has spans, `easy::Stream` has errors that keep their items, `MaybePartialStream` may be open, and `Faulty` fails at a read or a reset.
+//! Streams: what parsers read. A slice and a text are streams, `fed::Stream` is fed piece by piece, `position::Stream` counts its position, that of `span::Stream` is where an error begins and ends, `easy::Stream` has errors that keep items, a `MaybePartialStream` may go on, and of a `Faulty` a read or a reset fails.
 
 pub use combine_base::stream::{
     Failures, Kind, Left, Positioned, ResetStream, Stream, StreamOnce, asks_for_more, ends_open,

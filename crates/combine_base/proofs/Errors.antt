@@ -1,4 +1,4 @@
--- errors: those of calls, meant refusals, and items added
+-- errors: what a call's error says, which refusals are meant, and items added
 pub mod AddedItems
 pub mod CallErrors
 pub mod CallReasons

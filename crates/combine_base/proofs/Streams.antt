@@ -1,4 +1,4 @@
--- streams: tokens passed over, and positions
+-- streams: tokens passed over, and what positions tell
 pub mod Distances
 pub mod FirstCharacter
 pub mod Movement

@@ -3,11 +3,11 @@ use denote.Ref.{Bor, MutBor}
 use Rattle.std.specs.Prelude.{◌≡◌}
 use Rattle.std.specs.Fn.{Shared}
 
--- may be called with a reference to a
+-- may be called at a reference to a
 abbrev pub TakesAt : {F T R : Type 0} → Shared F (Bor T × Unit {0}) R → F → T → Type 0
 TakesAt {T = T} g f a = (shown : Bor T) → shown.now ≡ a → g.pre f (shown, tt)
 
--- may be called with a mutable reference to a
+-- may be called at a mutable reference to a
 abbrev pub TakesAtMut : {F T R : Type 0} → Shared F (MutBor T × Unit {0}) R → F → T → Type 0
 TakesAtMut {T = T} g f a = (shown : MutBor T) → shown.now ≡ a → g.pre f (shown, tt)
 
@@ -19,7 +19,7 @@ TakesWithMut {T = T} g f x a = (shown : MutBor T) → shown.now ≡ a → g.pre 
 abbrev pub TakesLentMut : {F A T R : Type 0} → Shared F (Bor A × (MutBor T × Unit {0})) R → F → A → T → Type 0
 TakesLentMut {A = A} {T = T} g f x a = (lent : Bor A) (shown : MutBor T) → lent.now ≡ x → shown.now ≡ a → g.pre f (lent, (shown, tt))
 
--- with a mutable reference to a it may return r, and leave b there
+-- at a mutable reference to a it may return r, and leave b there
 pub record ReturnsAtMut {F T R : Type 0} (g : Shared F (MutBor T × Unit {0}) (R × (MutBor T × Unit {0}))) (f : F) (a : T) (r : R) (b : T) : Type 0 where
   pub shown : MutBor T
   pub shows : shown.now ≡ a

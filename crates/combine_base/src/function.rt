@@ -1,12 +1,12 @@
 //! Functions that parsers call.
 
-/// A function of one value that parsers call: a closure, a function, or a type of yours. Our own.
+/// A function of one value that parsers call: a closure, a function, or a type of one's own. Our own.
 ///
-/// A type of yours, which may have no size, gives a parser's type a name. It writes `Output` and `call`. It can be called with every value, and nothing is known of its result, unless `callable` and `returns` are written too.
+/// A type of one's own, of no size perhaps, gives a name to a parser's type. It writes `Output` and `call`; it can then be called on every value, and nothing is known of what it returns. By `callable` and `returns` it says more.
 ///
-/// As a test of tokens it replaces combine's `FnMut`.
+/// As a test of a stream's tokens it stands where the crate takes an `FnMut`.
 ///
-/// The prover gives each impl a declaration of its own, except one with a bound on `Fn`, which it writes out within the impl around it. With this trait each of several nested `map` has its own.
+/// The prover shows each impl in a declaration of its own, but one with a bound on `Fn`, which it writes out in that of the impl round it. By this trait parsers that are mapped within each other stay apart.
 ///
 /// # Examples
 ///
@@ -29,16 +29,16 @@
 /// }
 /// ```
 pub trait Function<A> {
-    /// The type of its result.
+    /// What it returns.
     type Output;
 
-    /// The values with which it may be called.
+    /// The values that it may be called on.
     ghost callable: { Self → A → Type 0 } = { λ f a. Unit {0} };
 
-    /// Its possible results.
+    /// What it may return.
     ghost returns: { Self → A → Self.Output → Type 0 } = { λ f a b. Unit {0} };
 
-    /// Calls the function with the value.
+    /// Returns what it makes of the value.
     fn call(&self, value: A) -> Self::Output
         requires { callable self.now value }
         ensures { returns self.now value result };
@@ -57,18 +57,18 @@ impl<A, B, F: Fn(A) -> B> Function<A> for F {
     }
 }
 
-/// A function without arguments that parsers call; see [`Function`]. Our own.
+/// A function without arguments that parsers call, as [`Function`]. Our own.
 pub trait Maker {
-    /// The type of its result.
+    /// What it returns.
     type Output;
 
-    /// Whether it may be called.
+    /// It may be called.
     ghost callable: { Self → Type 0 } = { λ f. Unit {0} };
 
-    /// Its possible results.
+    /// What it may return.
     ghost returns: { Self → Self.Output → Type 0 } = { λ f b. Unit {0} };
 
-    /// Calls the function.
+    /// Returns what it makes.
     fn make(&self) -> Self::Output
         requires { callable self.now }
         ensures { returns self.now result };
@@ -87,18 +87,18 @@ impl<B, F: Fn() -> B> Maker for F {
     }
 }
 
-/// A function of a reference that parsers call; see [`Function`]. Our own.
+/// A function of a reference that parsers call, as [`Function`]. Our own.
 pub trait RefFunction<A> {
-    /// The type of its result.
+    /// What it returns.
     type Output;
 
-    /// The values with which it may be called.
+    /// The values that it may be called on.
     ghost callable: { Self → A → Type 0 } = { λ f a. Unit {0} };
 
-    /// Its possible results.
+    /// What it may return.
     ghost returns: { Self → A → Self.Output → Type 0 } = { λ f a b. Unit {0} };
 
-    /// Calls the function with the value.
+    /// Returns what it makes of the value.
     fn call_ref(&self, value: &A) -> Self::Output
         requires { callable self.now value.now }
         ensures { returns self.now value.now result };
@@ -120,26 +120,26 @@ impl<A, B, F: Fn(&A) -> B> RefFunction<A> for F {
     }
 }
 
-/// A function that parsers call with a mutable reference as its last argument; see [`Function`]. Our own.
+/// A function that parsers call whose last argument is a mutable reference, as [`Function`]. Our own.
 ///
-/// `A` is `()` if there is no other argument, `(X,)` if one of type `X` precedes it, and [`Lent<X>`](Lent) if a reference to one does.
+/// `A` is `()` where there is no other argument, `(X,)` where one of type `X` stands before it, and [`Lent<X>`](Lent) where a reference to one does.
 pub trait MutFunction<A, S> {
-    /// The type of its result.
+    /// What it returns.
     type Output;
 
-    /// The values with which it may be called.
+    /// The values that it may be called on.
     ghost callable: { Self → A → S → Type 0 } = { λ f a s. Unit {0} };
 
-    /// Its possible results, each with the last argument after the call.
+    /// What it may return, and what it may leave of the last argument.
     ghost returns: { Self → A → S → Self.Output → S → Type 0 } = { λ f a s b left. Unit {0} };
 
-    /// Calls the function with the values.
+    /// Returns what it makes of the values.
     fn call_mut(&self, first: A, last: &mut S) -> Self::Output
         requires { callable self.now first last.old }
         ensures { returns self.now first last.old result last.new };
 }
 
-/// A value that a function gets by reference. Our own.
+/// A value that a function is given a reference to. Our own.
 #[derive(Drop)]
 pub struct Lent<T>(pub T);
 
@@ -188,14 +188,14 @@ impl<T: Drop, S, B, F: Fn(&T, &mut S) -> B> MutFunction<Lent<T>, S> for F {
     }
 }
 
-/// A function that parsers call to compare an item with a token; see [`Function`]. Our own.
+/// A function of an item and a token that says whether they fit, as [`Function`]. Our own.
 pub trait Compare<A, T> {
     ghost use Rattle.std.specs.Prelude.{Bool};
 
-    /// The values with which it may be called.
+    /// The values that it may be called on.
     ghost callable: { Self → A → T → Type 0 } = { λ f a t. Unit {0} };
 
-    /// Its possible results.
+    /// What it may return.
     ghost returns: { Self → A → T → Bool → Type 0 } = { λ f a t b. Unit {0} };
 
     /// Returns whether the token fits the item.

@@ -1,4 +1,4 @@
-//! The trait of parsers, and the calls that run one.
+//! The protocol of parsers, and the calls that run one.
 ghost use Rattle.std.specs.Prelude.{◌≡◌, ℕ, ◌+◌, ◌<◌, ◌≤◌, List, [], ◌∷◌, ◌++◌, Bool, true, false, IsTrue, length, drop};
 
 use crate::error::{ErrorOffset, ParseResult, Tracked};
@@ -14,7 +14,7 @@ pub use calls::Calls;
 
 /// How a call begins: afresh, or from a kept state.
 pub trait ParseMode: Copy {
-    /// Whether a mode begins afresh.
+    /// The modes that begin afresh.
     ghost first: { Self → Bool };
 
     /// Returns whether the call begins afresh.
@@ -40,7 +40,7 @@ impl ParseMode for FirstMode {
     fn set_first(&mut self) {}
 }
 
-/// A call that continues from the kept state, until `first` is set.
+/// A call that goes on from the kept state, until `first` is set.
 #[derive(Clone, Copy, Default)]
 pub struct PartialMode {
     /// Set if the call begins afresh after all.
@@ -59,9 +59,9 @@ impl ParseMode for PartialMode {
     }
 }
 
-/// The type of the value that a parser returns over a stream.
+/// The value that a parser gives over a stream, apart from how it parses.
 ///
-/// It is apart from [`Parser`], so that the compiler finds the value of a nested parser without going through all of its bounds; an implementation names each part at most once.
+/// It stands apart from [`Parser`] so that the compiler finds the value of a nested parser without going through all of its bounds; an implementation names a part once at most.
 pub trait Outputs<Input> {
     /// The value of an acceptance.
     type Output: Drop;
@@ -70,13 +70,13 @@ pub trait Outputs<Input> {
 /// A parser over a stream.
 ///
 /// An implementation writes `parse_mode`, `add_error` and `parser_count`; the other calls have bodies over them.
-/// It also writes its meaning, the laws of that meaning, and the preconditions of its calls.
+/// It gives its meaning, the laws of that meaning, and what its calls need.
 ///
 /// # Differences from combine
 ///
-/// - `Output` is in [`Outputs`], a trait of its own.
-/// - An implementation also writes `parser_count`. There is no `parse_mode_impl` or `parse_committed_mode`.
-/// - The method forms of the constructors are in `ParserExt`.
+/// - `Output` is that of [`Outputs`], a trait of its own.
+/// - An implementation writes `parser_count` too. The crate's `parse_mode_impl` and `parse_committed_mode` aren't there.
+/// - The method forms of the constructors stand in `ParserExt`.
 pub trait Parser<Input: Stream>: Outputs<Input> {
     ghost use Rattle.std.specs.Prelude.{◌≡◌, ℕ, true, false, Bool, Option, Some, None};
     ghost use Rattle.combine_base.specs.Stream.View.{View};
@@ -89,31 +89,31 @@ pub trait Parser<Input: Stream>: Outputs<Input> {
     ghost use Rattle.combine_base.specs.Stream.Calls.{Passes};
     ghost use Rattle.combine_base.specs.declared.stream.Failures.{Failures};
 
-    /// The kept state, from which a call continues after need of more.
+    /// What is kept while more input is needed.
     type PartialState: Default + Drop;
 
-    /// The precondition of a call, on the caller's functions and types.
+    /// What a call needs of a caller's functions and types.
     ghost lawful: { Self → Type 0 } = { λ _. Unit {0} };
 
-    /// The condition on the caller's functions under which there is one outcome, by its shape.
+    /// What a caller's functions owe so that there is one outcome, by its shape.
     ///
-    /// No call requires it.
+    /// No call needs it.
     ///
-    /// A function on whose value an outcome depends, as that of `then`, depends on the contents of its arguments alone.
+    /// Those on whose value an outcome depends, as that of `then`, answer from what their arguments hold.
     ghost determined: { Self → Type 0 } = { λ _. Unit {0} };
 
-    /// The states that a call may get; a parser in such a state is lawful.
+    /// The states that a call may be given: a parser that a state holds is lawful.
     ghost valid: { Self.PartialState → Type 0 } = { λ _. Unit {0} };
 
-    /// The outcomes of the parser on a view, from the start and from a state, and the errors of its refusals.
+    /// Which outcomes the parser has on a view, from the start and from a state, and which errors its refusals have.
     ghost meaning: { Self → Meaning Input.Position Input.Token Input.Range Input.Error Self.Output Self.PartialState };
 
-    /// The number of parsers that run one after another, at most 255.
+    /// How many parsers are run one after another, at most 255.
     ghost parts: { Self → ℕ } = { λ _. 1 };
 
     /// Parses, afresh or from the kept state.
     ///
-    /// An acceptance has taken exactly its tokens. After every result except need of more the state is a default one.
+    /// An acceptance has taken exactly its tokens. After every result but need of more the state is a default one.
     ///
     /// # Errors
     ///
@@ -121,7 +121,7 @@ pub trait Parser<Input: Stream>: Outputs<Input> {
     ///
     /// # Partial input
     ///
-    /// Need of more is `CommitErr` of kind `End` on an open stream. The state is then kept for the next call, which continues from it.
+    /// Need of more is `CommitErr` of kind `End` on an open stream. The state then keeps what the next call goes on with.
     fn parse_mode<M: ParseMode>(
         &mut self,
         mode: M,
@@ -137,24 +137,24 @@ pub trait Parser<Input: Stream>: Outputs<Input> {
         ensures answers { AnswersCall Input.StreamOnce Input.Error.observers Self.PartialState.is_default (meaning self.old) (M.first mode) state.old state.new input.old input.new result }
         ensures refuses { ReasonedCall Input.Error.observers (meaning self.old) (M.first mode) state.old (Input.view input.old) (Input.view input.new) result };
 
-    /// Adds this parser's expected items to an error of its own or of a parser around it.
+    /// Adds what this parser expected to an error, which is its own or that of a parser round it.
     ///
-    /// If an item is out of memory, the kind becomes `Memory`.
+    /// An item that finds no memory makes it an error of kind `Memory`.
     fn add_error(&mut self, error: &mut Tracked<Input::Error>)
         requires { lawful self.old }
         ensures lawful { lawful self.new }
         ensures same { MeansSame (meaning self.old) (meaning self.new) }
         ensures says { AddsItems Input.Error.observers (meaning self.old).heapless (meaning self.old).adds error.old.error error.new.error };
 
-    /// Returns the number of parsers that run one after another, at most 255.
+    /// Returns how many parsers are run one after another, at most 255.
     fn parser_count(&self) -> ErrorOffset
         ensures { result.0 ≡ parts self.now };
 
-    /// Explains a peeked refusal: puts the stream back, and adds the unexpected token there, if any, and the expected items.
+    /// Puts the stream back to where this parser was refused peeked, and adds to the error which token stands there and what was expected.
     ///
     /// # Errors
     ///
-    /// The kind of a failed reset or read.
+    /// The kind of a reset or of a read that failed.
     final fn explain(
         &mut self,
         start: Input::Checkpoint,
@@ -181,7 +181,7 @@ pub trait Parser<Input: Stream>: Outputs<Input> {
     ///
     /// # Errors
     ///
-    /// A failed reset or read is a committed fault.
+    /// A reset or a read that fails meanwhile is a committed fault.
     #[inline(always)]
     final fn parse_explained<M: ParseMode>(
         &mut self,
@@ -230,7 +230,7 @@ pub trait Parser<Input: Stream>: Outputs<Input> {
         self.parse_mode(FirstMode, input, state)
     }
 
-    /// Continues from the kept state, where a default one begins.
+    /// Goes on from the kept state; a default one begins.
     final fn parse_partial(
         &mut self,
         input: &mut Input,
@@ -248,11 +248,11 @@ pub trait Parser<Input: Stream>: Outputs<Input> {
         self.parse_mode(PartialMode::default(), input, state)
     }
 
-    /// Parses from the start, without explaining a refusal.
+    /// Parses from the start, and leaves a refusal as it is.
     ///
     /// # Partial input
     ///
-    /// Need of more is a committed error of kind `End`. The kept state is dropped.
+    /// Need of more is a committed error of kind `End`. What was kept is dropped.
     final fn parse_lazy(&mut self, input: &mut Input) -> ParseResult<Self::Output, Input::Error>
         requires { lawful self.old }
         ensures lawful { lawful self.new }
@@ -270,11 +270,11 @@ pub trait Parser<Input: Stream>: Outputs<Input> {
     ///
     /// # Errors
     ///
-    /// On a peeked refusal the stream is put back, and the error has the unexpected token there, if any, and the expected items.
+    /// On a peeked refusal the stream is put back, and the error says which token stands there and what was expected.
     ///
     /// # Partial input
     ///
-    /// Need of more is a committed error of kind `End`. The kept state is dropped.
+    /// Need of more is a committed error of kind `End`. What was kept is dropped.
     final fn parse_stream(&mut self, input: &mut Input) -> ParseResult<Self::Output, Input::Error>
         requires { lawful self.old }
         ensures lawful { lawful self.new }
@@ -288,15 +288,15 @@ pub trait Parser<Input: Stream>: Outputs<Input> {
         self.parse_explained(FirstMode, input, &mut state)
     }
 
-    /// Continues from the kept state, where a default one begins, and returns the value or the error.
+    /// Goes on from the kept state, where a default one begins, and returns the value or the error.
     ///
     /// # Errors
     ///
-    /// The error of a refusal, as `parse_stream` returns it, or of a fault.
+    /// The error of a refusal, which `parse_stream` would return, or that of a fault.
     ///
     /// # Partial input
     ///
-    /// Need of more is an error of kind `End` on an open stream. The state is then kept for the next call, which continues from it.
+    /// Need of more is an error of kind `End` on an open stream. The state then keeps what the next call goes on with.
     final fn parse_with_state(
         &mut self,
         input: &mut Input,
@@ -314,17 +314,17 @@ pub trait Parser<Input: Stream>: Outputs<Input> {
             .without_commit()
     }
 
-    /// Parses from the start, and returns the value and the rest of the input.
+    /// Parses from the start, and returns the value and the input that is left.
     ///
-    /// If the caller's functions depend on their arguments alone (`determined`), the outcome is the only one by its shape: accepted, refused or undecided, committed or not, and the number of tokens. Its value is any that the meaning allows.
+    /// Where the caller's functions answer from their arguments alone (`determined`), the outcome is the only one by its shape: its kind, its commitment and how many tokens it takes. Its value is any that the meaning allows.
     ///
     /// # Errors
     ///
-    /// The error of a refusal, as `parse_stream` returns it, or of a fault.
+    /// The error of a refusal, which `parse_stream` would return, or that of a fault.
     ///
     /// # Partial input
     ///
-    /// Over an open stream need of more is an error of kind `End`. To continue, use `parse_with_state` or a [`Session`].
+    /// Over an open stream need of more is an error of kind `End`. `parse_with_state` and a [`Session`] go on.
     ///
     /// # Examples
     ///
@@ -364,9 +364,9 @@ pub trait Parser<Input: Stream>: Outputs<Input> {
     /// A default state is valid.
     ghost default_valid: { (s : Self.PartialState) → Self.PartialState.is_default s → valid s };
 
-    /// The meaning of a lawful parser has the laws of meanings (`IsMeaning`).
+    /// The meaning of a lawful parser keeps the laws of meanings (`IsMeaning`).
     ghost laws: { (p : Self) → lawful p → IsMeaning Self.PartialState.is_default valid (meaning p) };
 
-    /// If `determined` holds too, there is one outcome, by its shape.
+    /// Where `determined` holds too, there is one outcome, by its shape.
     ghost single: { (p : Self) → lawful p → determined p → MeansOne valid (meaning p) };
 }

@@ -1,4 +1,4 @@
--- bytes tested one after another: the first that passes
+-- bytes looked through: where one passes first
 use Rattle.std.specs.Prelude.{ℕ, zero, suc, ◌+◌, ◌-◌, ◌<◌, ◌≤◌, ◌≡◌, ◌&&◌, List, [], ◌∷◌, ◌++◌, Bool, true, false, take, drop, length, Some, None, nat_eq, refl}
 use Rattle.std.specs.Cmp.Lexicographic.{pointwise}
 use Rattle.std.proofs.Common.{arith, ap, sym, subst, ◌∙◌, length-drop}
@@ -96,7 +96,7 @@ module _ (passes : ℕ → Bool) where
       going (x ∷ bs) zero l e = ap passes (ap (λ xs. head_or b xs) e) ∙ p
       going (x ∷ bs) (suc n) l e = (l.0, going bs n l.1 e)
 
--- the needle occurs nowhere in the bytes that were passed
+-- no needle stands at the bytes that were passed
 pub record SoughtBytes (needle bs rest : List ℕ) : Type 0 where
   pub front : List ℕ
   pub all : bs ≡ front ++ rest
@@ -132,7 +132,7 @@ module _ (needle : List ℕ) where
   sought_bytes_none bs = record { front = []; all = refl; none = λ j h s. omega arith }
 
 module _ (needle : List ℕ) (f : ℕ) (ns bs rest : List ℕ) (is : needle ≡ f ∷ ns) (z : SoughtBytes needle bs rest) where
-  -- where a needle occurs, its first byte does
+  -- where a needle stands, its first byte does
   head_first : (xs : List ℕ) → BeginsWithBytes (these_bytes needle) xs → BeginsWithBytes (a_byte (λ b. nat_eq b f)) xs
   head_first [] s = absurd (let a = enough needle [] s in let b = ap length is in omega arith)
   head_first (x ∷ xs) s = head_stands (λ b. nat_eq b f) x xs (both (nat_eq x f) (pointwise nat_eq (take (length ns) xs) ns) (stands_equal (f ∷ ns) (x ∷ xs) (subst (λ n. BeginsWithBytes (these_bytes n) (x ∷ xs)) is s)))
@@ -141,7 +141,7 @@ module _ (needle : List ℕ) (f : ℕ) (ns bs rest : List ℕ) (is : needle ≡ 
       both true b e = refl
       both false b e = e
 
-  -- places after the front
+  -- places behind the front
   behind : (j : ℕ) → length z.front ≤ j → drop j bs ≡ drop (j - length z.front) rest
   behind j h = ap (drop j) z.all ∙ ap (λ n. drop n (z.front ++ rest)) {x = j} {y = length z.front + (j - length z.front)} (omega arith) ∙ sym (drop-drop (j - length z.front) (length z.front) (z.front ++ rest)) ∙ ap (drop (j - length z.front)) (drop_at z.front rest (length z.front) refl)
 

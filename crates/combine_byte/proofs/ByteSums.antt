@@ -1,4 +1,4 @@
--- the number of bytes in an order, one byte more at a time
+-- the number that stands in bytes, one byte more at a time
 use Rattle.std.proofs.Common.{ℕ, zero, suc, ◌+◌, ◌*◌, ◌%◌, ◌^◌, ◌<◌, ◌≤◌, ◌≡◌, List, [], ◌∷◌, ◌++◌, length, arith, ap, sym, refl, ◌∙◌, length-append}
 use Rattle.std.proofs.Math.Nat.{mul_assoc, pow-suc, pow-le-pow_right}
 use Rattle.std.proofs.lemmas.Nat.{pow-add}
@@ -21,7 +21,7 @@ below_seven n h =
     let l : n ≤ 7 = omega arith in
     pow-le-pow_right p l
 
--- a byte after the others, the highest first
+-- a byte behind the others, the highest first
 pub big_more : (bs : List ℕ) (b : ℕ) → big_endian (bs ++ (b ∷ [])) ≡ big_endian bs * 256 + b
 big_more [] b = omega arith
 big_more (x ∷ bs) b =

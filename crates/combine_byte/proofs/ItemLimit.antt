@@ -6,7 +6,7 @@ use Rattle.combine_base.specs.declared.stream.Failures.{Failures}
 use Rattle.combine_stream.specs.Range.Ranges.{size_of, UnconsRange, size_rises}
 use Rattle.combine_byte.specs.Search.ItemLimit.{UpTo}
 
--- a token place with no more items than another is not after it
+-- a token place within so many items is none behind the one that has most of them
 pub last_place : {T : Type 0} (size : T → ℕ) → ((t : T) → 0 < size t) → (us : List T) (k n : ℕ) → k ≤ length us → size_of size (take k us) ≤ size_of size (take n us) → k ≤ n
 last_place size filled us k n l h = by_order (λ g. let a = size_rises size filled us n k g l in omega arith)
   where

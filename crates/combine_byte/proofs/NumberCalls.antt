@@ -101,7 +101,7 @@ module _ {P T R N S E : Type 0} (s : Observers T R P E) (width : ℕ) (value : L
   abbrev says : View P T → Bool → E → Type 0
   says = begun_refuses (takes_number s width value) first state old
 
-  -- in each mode
+  -- whatever the mode
   refuses_so : (f : Bool) (z : S) (v w : View P T) (k : Bool) (e : E) → RefusesShort s v w k e → begun_refuses (takes_number s width value) f z v w k e
   refuses_so true z v w k e p = p
   refuses_so false z v w k e p = p

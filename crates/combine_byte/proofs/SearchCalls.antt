@@ -83,7 +83,7 @@ module _ {P T R Q E : Type 0} (w : World P T Distance E) (size : T → ℕ) (fil
   is_open : mid.is_open ≡ r.old.is_open
   is_open = takes_open w.step p.is.0 r.old mid p.is.2.taken
 
-  -- all items are those before the distance and those after it
+  -- all items are those before the distance and those behind it
   all_items : d + size_of size mid.unread ≡ size_of size r.old.unread
   all_items = let a = size_take size p.is.0 r.old.unread in let b = p.is.1.items in let c = ap (size_of size) unread in omega arith
 
@@ -105,7 +105,7 @@ module _ {P T R Q E : Type 0} (w : World P T Distance E) (size : T → ℕ) (fil
       before : (b : R) → spells b (take (p.is.0 + u.is.0) r.old.unread) → StandsBeforePlace size spells s d r.old b (p.is.0 + u.is.0) (nat_lt 0 (p.is.0 + u.is.0))
       before b y = record { items = i; found = found; place = there; spelled = y; kind = refl }
 
-      -- after a kept distance: all is read again
+      -- behind a kept distance: all is read again
       pub found_hands : (result : ParseResult R E) → (Takes w.step (p.is.0 + u.is.0) r.old v → HandsOutRange w.counts_failures w.step spells r.old r.new h r.after (p.is.0 + u.is.0) w.kind result) → w.fresh r.left → r.before.reads ≤ h.reads → r.before.resets ≤ h.resets → Answers w (kept size (searching size spells s) adds says) r result
       found_hands result t l x y = distance_hands_over w size (searching size spells s) adds says r d e (p.is.0 + u.is.0) h spells result (t taken) before l x y counts_failures
 
@@ -138,7 +138,7 @@ module _ {P T R Q E : Type 0} (w : World P T Distance E) (size : T → ℕ) (fil
     beyond : size_of size mid.unread < i → Beyond size s d r.old.unread
     beyond l = record { items = i; found = found; short = let a = all_items in omega arith }
 
-    -- the error where the items before the place are no range
+    -- the error where what stands before the place is no range
     pub found_says : (observers : Observers T R P E) (v : View P T) → v ≡ mid → (u : lengths.UnfitLength size spells i mid) (x : E) → reasons.length_says observers size spells r.old.position i mid u x → RefusesSearch observers w.step size spells s d r.old v false x
     unfolding found beyond torn
     found_says observers v y (lengths.Short l o) x h = record { unfit = Short (beyond l) (sym is_open ∙ o) refl; leaves = y ∙ p.is.2.taken.rest; says = h }
@@ -154,7 +154,7 @@ module _ {P T R Q E : Type 0} (w : World P T Distance E) (size : T → ℕ) (fil
               distance_asks_from w size (searching size spells s) adds says r d e p.is.0 state mid h result (t (subst (Takes w.step p.is.0 r.old) (sym z.1.same) p.is.2.taken)) p.is.2.taken f x y (λ a. z.1.failures a ∙ p.is.2.failures a) c (Far (beyond z.0), c) (λ n m a b o k. subst (λ n. searching size spells s n (extended a b r.old) o) (m ∙ p.is.1.items) k)
 
       module _ (result : ParseResult R E) (c : k ≡ kinds.End → v.is_open ≡ true → ⊥) (m : v ≡ r.new) (n : h ≡ r.after) (f : w.fresh r.left) where
-        -- nothing was read after the distance
+        -- nothing was read behind the distance
         refused : RefusesPeeked w.kind w.heapless v.is_open result → searching size spells s d r.old (Refused false) → v ≡ mid → (w.counts_failures → h ≡ g) → Answers w (kept size (searching size spells s) adds says) r result
         refused t a b y =
             distance_refuses w size (searching size spells s) adds says r d e result (subst (λ o. RefusesPeeked w.kind w.heapless o result) (ap (λ (x : View P T). x.is_open) b ∙ is_open) t) a (record { count = p.is.0; taken = subst (Takes w.step p.is.0 r.old) (sym b ∙ m) p.is.2.taken }) f (λ z. sym n ∙ y z ∙ p.is.2.failures z)

@@ -1,4 +1,4 @@
--- the errors of the refusals of searches, by the result of a call
+-- the errors of the refusals of searches, by how a call is answered
 use Rattle.std.specs.Prelude.{not}
 use Rattle.std.proofs.Common.{◌≡◌, Bool, true, false, ⊎_elim}
 use Rattle.combine_base.specs.Error.Errors.{Observers, Only}

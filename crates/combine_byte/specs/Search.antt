@@ -1,4 +1,4 @@
--- searches: places in a list of tokens, and the ranges before them
+-- searches: places in a list of tokens, and what is read from them
 pub mod ItemLimit
 pub mod SearchParsers
 pub mod SearchReasons

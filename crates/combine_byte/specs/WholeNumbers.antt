@@ -1,4 +1,4 @@
--- a fixed number of bytes, and their number
+-- a fixed number of bytes, and the number that stands in them
 use Rattle.std.specs.Prelude.{ℕ, ◌<◌, ◌≤◌, ◌≡◌, ◌⊎◌, List, ◌++◌, Bool, true, false, length, take, refl}
 use Rattle.std.proofs.Common.{arith}
 use Rattle.std.proofs.lemmas.List.{take-append-le}
@@ -20,12 +20,12 @@ use Rattle.combine_byte.specs.declared.whole.WholeNumber.{WholeNumber}
 abbrev pub number_parser : {Input O N : Type 0} → WholeNumber Input O N
 number_parser = record { reads = record {}; order = record {}; number = record {} }
 
--- the value of bytes, by their sum
+-- what bytes stand for, by the sum that they make
 abbrev pub worth : {T N : Type 0} → (ℕ → N) → (List T → ℕ) → List T → N
 worth of_sum number bytes = of_sum (number bytes)
 
 module _ {P T N : Type 0} (width : ℕ) (value : List T → N) where
-  -- that many bytes are taken; too few are refused peeked, or need more
+  -- that many bytes are taken; too few are refused peeked, or more is asked for
   abbrev pub whole_number : Reading P T N
   whole_number v (Accepted a n k) = (width ≤ length v.unread) × (a ≡ value (take width v.unread)) × (n ≡ width) × (k ≡ true)
   whole_number v (Refused k) = (length v.unread < width) × (v.is_open ≡ false) × (k ≡ false)
@@ -62,7 +62,7 @@ module _ {T R P E : Type 0} (s : Observers T R P E) where
   refuses_short place true e = ⊥
   refuses_short place false e = HasItems s kinds.End place (Only end_of_input) e
 
-  -- the error of too few bytes: peeked, made where they began, with the end of input as unexpected; the stream is put back to before the first of them
+  -- the error of too few bytes: peeked, made where they began, and it says that the input ended; the stream is left as it was before the first of them
   pub record RefusesShort (v w : View P T) (committed : Bool) (e : E) : Type 0 where
     pub is : refuses_short v.position committed e
     pub back : w ≡ v
@@ -79,7 +79,7 @@ module _ {P T R E N S : Type 0} (errors : Observers T R P E) (width : ℕ) (valu
   takes_number_means_one valid = stateless_means_one valid (whole_number width value) ⊥ (Unit {0}) AddsNothing (RefusesShort errors) (record { one = one width value })
 
 module _ {T R P V E : Type 0} (counts_failures : Type 0) (step : P → T → P) (s : Observers T R P E) (marked : View P T → Type 0) (place : P) (old new : View P T) (before after : Failures) where
-  -- the stream was put back, and the result is the end
+  -- the stream was put back, and the end is answered
   pub record EndsThere (result : ParseResult V E) : Type 0 where
     pub at : (v : View P T) → marked v → new ≡ v
     pub failures : counts_failures → after ≡ before
@@ -94,6 +94,6 @@ module _ {T R P V E : Type 0} (counts_failures : Type 0) (step : P → T → P) 
     pub moves : Moves step old new
     pub resets : before.resets < after.resets
 
-  -- the result where the bytes ended too early
+  -- what is answered where the bytes ended too early
   pub record EndsTooEarly (result : ParseResult V E) : Type 0 where
     pub is : EndsThere result ⊎ NumberUnreset result

@@ -1,4 +1,4 @@
-//! The result of a search that finds no place.
+//! What a parser returns where a search finds no place.
 ghost use Rattle.std.specs.Prelude.{◌≡◌, ◌↔◌, false, true};
 ghost use Rattle.combine_base.specs.Stream.Calls.{Passes};
 ghost use Rattle.combine_byte.specs.Search.SearchReasons.{SaysAbsent};
@@ -9,7 +9,7 @@ use combine_base::refusal::no_token;
 use combine_base::stream::{Kind, Stream, StreamOnce};
 use combine_stream::range::{Range, RangeStream};
 
-/// Skips the tokens that are whole within the first `most` items.
+/// Passes over as many tokens as begin within the first `most` items and end there.
 ///
 /// # Errors
 ///
@@ -30,12 +30,11 @@ where
                 }
             }
         }
-        // These items end inside a token.
         items = items.saturating_sub(1);
     }
 }
 
-/// Returns whether a range was too short on an open stream.
+/// Returns whether a range was too short, and more may come.
 #[inline]
 pub fn may_grow<Input: Stream>(input: &Input, why: Kind) -> bool
     ensures { (result ≡ true) ↔ ((why ≡ Kind.End) × ((Input.view input.now).is_open ≡ true)) }
@@ -46,9 +45,9 @@ pub fn may_grow<Input: Stream>(input: &Input, why: Kind) -> bool
     input.is_partial()
 }
 
-/// Refuses if no place is found in ended input: peeked if the input is empty, else committed.
+/// Refuses where no place is found in ended input: peeked where the input is empty, and else committed.
 ///
-/// The error has the end of input as unexpected. Out of memory for it is the fault `Memory`.
+/// The error says that the input ended. One that finds no memory for that is the fault `Memory`.
 #[cold]
 pub fn not_found<O, Input: Stream>(
     input: &Input,
@@ -70,7 +69,7 @@ pub fn not_found<O, Input: Stream>(
     }
 }
 
-/// Returns whether the distance is 0 and nothing is unread.
+/// Returns whether nothing is unread, at a distance or after it.
 #[inline]
 pub fn is_nothing<R: Range>(distance: usize, unread: &R) -> bool
     ensures { (result ≡ true) ↔ ((distance ≡ 0) × (R.count unread.now ≡ 0)) }

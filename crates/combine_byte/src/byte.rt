@@ -1,4 +1,4 @@
-//! Parsers of the input before the first place of some bytes.
+//! What stands before the first place of some bytes.
 ghost use Rattle.std.specs.Prelude.{◌≡◌};
 ghost use Rattle.combine_byte.specs.Search.SearchParsers.{until_needle_of, until_one_of, until_three_of, until_two_of};
 
@@ -10,23 +10,23 @@ use crate::search::Searching;
 use std::marker::PhantomData;
 use types::{TakeUntilByte, TakeUntilByte2, TakeUntilByte3, TakeUntilBytes};
 
-/// Takes the input before the first byte that is `wanted`.
+/// Takes what stands before the first byte that is `wanted`.
 ///
-/// The acceptance is committed, or peeked if nothing precedes that byte.
+/// The acceptance is committed, or peeked where nothing stands before it.
 ///
 /// # Errors
 ///
-/// - If the byte occurs nowhere in ended input, the result is refused, peeked if the input is empty and else committed, with an error of kind `End`.
+/// - If the byte stands nowhere in ended input, that is refused, peeked where the input is empty and else committed, with an error of kind `End`.
 /// - In a text a place inside a character is refused peeked.
-/// - Faults are `Lost`, if the input is shorter than the kept distance, `Read` and `Reset` of the stream, and `Memory` if an error finds none for its text.
+/// - Faults are `Lost`, if the input is shorter than what was searched, `Read` and `Reset` of the stream, and `Memory` if an error finds none for its text.
 ///
 /// # Partial input
 ///
-/// If it isn't found in an open piece, the result is need of more. The next call doesn't begin again, but skips the items that were searched and goes on.
+/// If it isn't found in an open piece more is asked for. The next call doesn't begin again, but passes over what was searched and goes on.
 ///
 /// # Differences from combine
 ///
-/// In combine a refusal's error is at the end of the input that was read. On ended input combine refuses peeked if nothing follows the input that it searched in the piece before.
+/// A refusal's error stands in the crate at the end of what was read. On ended input the crate refuses peeked where nothing stands after what it searched in the piece before.
 ///
 /// # Examples
 ///
@@ -47,9 +47,9 @@ pub fn take_until_byte<Input>(wanted: u8) -> TakeUntilByte<Input>
     }
 }
 
-/// Takes the input before the first of two bytes.
+/// Takes what stands before the first of two bytes.
 ///
-/// Errors, partial input and differences are those of `take_until_byte`.
+/// It is accepted, refused and put back as `take_until_byte`, and asks for more as that does.
 #[inline]
 pub fn take_until_byte2<Input>(first: u8, second: u8) -> TakeUntilByte2<Input>
     ensures { result ≡ until_two_of first second }
@@ -60,9 +60,9 @@ pub fn take_until_byte2<Input>(first: u8, second: u8) -> TakeUntilByte2<Input>
     }
 }
 
-/// Takes the input before the first of three bytes.
+/// Takes what stands before the first of three bytes.
 ///
-/// Errors, partial input and differences are those of `take_until_byte`.
+/// It is accepted, refused and put back as `take_until_byte`, and asks for more as that does.
 #[inline]
 pub fn take_until_byte3<Input>(first: u8, second: u8, third: u8) -> TakeUntilByte3<Input>
     ensures { result ≡ until_three_of first second third }
@@ -73,11 +73,11 @@ pub fn take_until_byte3<Input>(first: u8, second: u8, third: u8) -> TakeUntilByt
     }
 }
 
-/// Takes the input before the first place of `needle`, which is 0 if it is empty, as `take_until_byte` does.
+/// Takes what stands before the first place of `needle`, which is 0 where it is empty, as `take_until_byte` does.
 ///
 /// # Partial input
 ///
-/// On need of more the input that was read may end with a beginning of the needle: these bytes are searched again.
+/// On need of more a beginning of the needle may stand at the end of what was read: its bytes are searched again.
 #[inline]
 pub fn take_until_bytes<'a, Input>(needle: &'a [u8]) -> TakeUntilBytes<'a, Input>
     ensures { result ≡ until_needle_of needle.entry }

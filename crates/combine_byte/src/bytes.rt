@@ -11,7 +11,7 @@ use combine_stream::position::{SliceStream, TextStream};
 use combine_stream::range::{ByteRange, Range, RangeStream};
 use combine_stream::{Faulty, MaybePartialStream, Unfailing};
 
-/// A stream whose ranges are bytes, some for each token. Our own: combine requires bytes only of ranges.
+/// A stream whose ranges are bytes, some for each token. Our own: the crate asks for bytes of ranges alone.
 pub trait ByteStream: RangeStream
 where
     Self::Range: ByteRange,
@@ -116,16 +116,16 @@ where
     ghost spelled = { S.spelled };
 }
 
-/// The bytes that a search looks for.
+/// What a search for bytes looks for.
 pub trait Pattern {
-    /// The number of these bytes, and a test of them.
+    /// So many bytes, and a test of them.
     ghost wanted: { Self → Wanted (List ℕ) };
 
-    /// Returns the first place of these bytes.
+    /// Returns the first place where they stand.
     fn find(&self, bytes: &[u8]) -> Option<usize>
         ensures { FindsBytes (wanted self.now) bytes.now result };
 
-    /// Returns the number of these bytes.
+    /// Returns how many bytes they are.
     fn len(&self) -> usize
         ensures { result ≡ (wanted self.now).items };
 }
@@ -150,7 +150,7 @@ impl<T: ByteTest> Pattern for ByteOf<T> {
     }
 }
 
-/// A sequence of bytes.
+/// Bytes in a row.
 #[derive(Clone, Copy)]
 pub struct Needle<'a>(pub(crate) &'a [u8]);
 

@@ -1,4 +1,4 @@
-//! First places of bytes: whole blocks are tested, so that the compiler compares many bytes at once, and then byte by byte the block with a match.
+//! First places of bytes: blocks are looked through whole, so that the compiler compares many bytes at once, and the block that has one again, byte by byte.
 ghost use Rattle.std.specs.Prelude.{◌≡◌, ◌↔◌, ℕ, ◌<◌, Bool, length, false, true};
 ghost use Rattle.combine_byte.specs.Bytes.ByteSearch.{FindsBytes, BeginsWithBytes, a_byte, these_bytes};
 ghost use Rattle.combine_byte.specs.Bytes.ByteScans.{FirstByte, Without, fails_all};
@@ -13,7 +13,7 @@ pub trait ByteTest {
         ensures { result ≡ passes self.now byte };
 }
 
-// Returns whether a byte of a block passes; it tests all of them.
+// Returns whether a byte of a block passes: all are looked at.
 #[inline(always)]
 fn any<T: ByteTest>(block: &[u8], test: &T) -> bool
     ensures { result ≡ false → Longest (fails_all (T.passes test.now)) block.now (length block.now) }
@@ -25,7 +25,7 @@ fn any<T: ByteTest>(block: &[u8], test: &T) -> bool
     found
 }
 
-// Returns the rest after the blocks of `N` bytes in which none passes.
+// Returns what is left after the blocks of `N` bytes in which none passes.
 #[inline(always)]
 fn skip_blocks<'a, T: ByteTest, const N: usize>(bytes: &'a [u8], test: &T) -> &'a [u8]
     requires { 0 < N }
@@ -57,7 +57,7 @@ fn scan<T: ByteTest>(bytes: &[u8], test: &T) -> usize
     n
 }
 
-/// Returns the first place where a byte passes, or the number of bytes.
+/// Returns the first place where a byte passes, or how many bytes there are.
 #[inline(always)]
 pub fn first_byte<T: ByteTest>(bytes: &[u8], test: &T) -> usize
     ensures { FirstByte (T.passes test.now) bytes.now result }
@@ -109,7 +109,6 @@ impl ByteTest for Two {
 
     #[inline(always)]
     fn holds(&self, byte: u8) -> bool {
-        // `|` in place of `||`, so that a block is compared without branches.
         (byte == self.0) | (byte == self.1)
     }
 }
@@ -121,7 +120,6 @@ impl ByteTest for Three {
 
     #[inline(always)]
     fn holds(&self, byte: u8) -> bool {
-        // `|` as in `Two`.
         (byte == self.0) | (byte == self.1) | (byte == self.2)
     }
 }
@@ -140,7 +138,7 @@ fn begins(bytes: &[u8], needle: &[u8]) -> bool
 
 /// Returns the first place of a needle.
 ///
-/// An empty one is at 0.
+/// An empty one stands at 0.
 #[inline]
 pub fn find_bytes(bytes: &[u8], needle: &[u8]) -> Option<usize>
     ensures { FindsBytes (these_bytes needle.now) bytes.now result }

@@ -1,4 +1,4 @@
-//! Laws of `take_fn` with a function whose results stay. The functions do nothing: their contracts are the laws.
+//! What `take_fn` means for a function whose results stay, stated by functions that do nothing.
 ghost use Rattle.std.specs.Prelude.{◌≡◌};
 ghost use Rattle.combine_range.specs.KeptDistance.{items_of};
 ghost use Rattle.combine_byte.specs.Search.TakeFn.{answers_as};
@@ -14,7 +14,7 @@ use combine_base::parser::Parser;
 use combine_range::distance::Distance;
 use combine_stream::range::{Range, RangeStream};
 
-/// `take_fn(f)` has one outcome if the results of `f` are stable: they depend on the tokens alone, a found place stays on longer ranges, and from any boundary within the items that need not be searched again `f` finds the same place.
+/// The law that it has one outcome: the function answers from the tokens alone, what it finds stays on longer ranges, and from any boundary within what need not be searched again it finds the same place.
 pub fn stable_has_one_outcome<
     Input: RangeStream,
     T: Into<TakeRange>,
@@ -25,7 +25,7 @@ where
     ensures { (f : _) → Stable Input.size Input.spells (answers_as (F.returns searcher.now) T.converts) f → ⟦<TakeFn<F, Input> as Parser<Input>>⟧.determined (take_fn_of searcher.now) }
 {}
 
-/// `take_fn(f)` with stable results means the result of `f` for all unread tokens, or for all after the kept distance.
+/// The law that it means what the function returns for all that is unread, or for all that is after the distance that is kept.
 pub fn stable_means_what_it_answers<
     Input: RangeStream,
     T: Into<TakeRange>,

@@ -1,18 +1,18 @@
 //! Binary integers of 2, 4 and 8 bytes.
 //!
-//! Each takes as many bytes as its number has: accepted committed, with the number of these bytes.
+//! Each takes as many bytes as its number has: accepted committed, with the number that stands in them.
 //!
 //! # Errors
 //!
-//! Too few bytes of ended input are put back and refused peeked, with an error where the parser began, without expected items.
+//! Too few bytes of ended input are put back and refused peeked, with an error that stands where the parser began. Nothing is said to be expected.
 //!
 //! # Partial input
 //!
-//! Too few bytes of an open piece are put back, the result is need of more, and the next call begins again.
+//! Too few bytes of an open piece are put back, more is asked for, and the next call begins again.
 //!
 //! # Differences from combine
 //!
-//! combine's error is at the end of the input that was read, and on need of more it loses the bytes that it took.
+//! The crate's error stands at the end of what was read, and on need of more it loses the bytes that it took.
 ghost use Rattle.std.specs.Prelude.{◌≡◌};
 ghost use Rattle.combine_byte.specs.WholeNumbers.{number_parser};
 
@@ -22,7 +22,7 @@ pub mod types;
 use crate::whole::whole_number;
 use types::{BeI16, BeI32, BeI64, BeU16, BeU32, BeU64, LeI16, LeI32, LeI64, LeU16, LeU32, LeU64};
 
-/// Parses a big-endian `u16`.
+/// Takes two bytes, the highest first.
 ///
 /// # Examples
 ///
@@ -40,7 +40,7 @@ pub fn be_u16<Input>() -> BeU16<Input>
     whole_number()
 }
 
-/// Parses a little-endian `u16`.
+/// Takes two bytes, the lowest first.
 #[inline]
 pub fn le_u16<Input>() -> LeU16<Input>
     ensures { result ≡ number_parser }
@@ -48,7 +48,7 @@ pub fn le_u16<Input>() -> LeU16<Input>
     whole_number()
 }
 
-/// Parses a big-endian `i16`, in two's complement.
+/// Takes two bytes, the highest first; the value is the number less 256^2 where it is at least half of that.
 #[inline]
 pub fn be_i16<Input>() -> BeI16<Input>
     ensures { result ≡ number_parser }
@@ -56,7 +56,7 @@ pub fn be_i16<Input>() -> BeI16<Input>
     whole_number()
 }
 
-/// Parses a little-endian `i16`, in two's complement.
+/// Takes two bytes, the lowest first; the value is the number less 256^2 where it is at least half of that.
 #[inline]
 pub fn le_i16<Input>() -> LeI16<Input>
     ensures { result ≡ number_parser }
@@ -64,7 +64,7 @@ pub fn le_i16<Input>() -> LeI16<Input>
     whole_number()
 }
 
-/// Parses a big-endian `u32`.
+/// Takes four bytes, the highest first.
 #[inline]
 pub fn be_u32<Input>() -> BeU32<Input>
     ensures { result ≡ number_parser }
@@ -72,7 +72,7 @@ pub fn be_u32<Input>() -> BeU32<Input>
     whole_number()
 }
 
-/// Parses a little-endian `u32`.
+/// Takes four bytes, the lowest first.
 #[inline]
 pub fn le_u32<Input>() -> LeU32<Input>
     ensures { result ≡ number_parser }
@@ -80,7 +80,7 @@ pub fn le_u32<Input>() -> LeU32<Input>
     whole_number()
 }
 
-/// Parses a big-endian `i32`, in two's complement.
+/// Takes four bytes, the highest first; the value is the number less 256^4 where it is at least half of that.
 #[inline]
 pub fn be_i32<Input>() -> BeI32<Input>
     ensures { result ≡ number_parser }
@@ -88,7 +88,7 @@ pub fn be_i32<Input>() -> BeI32<Input>
     whole_number()
 }
 
-/// Parses a little-endian `i32`, in two's complement.
+/// Takes four bytes, the lowest first; the value is the number less 256^4 where it is at least half of that.
 #[inline]
 pub fn le_i32<Input>() -> LeI32<Input>
     ensures { result ≡ number_parser }
@@ -96,7 +96,7 @@ pub fn le_i32<Input>() -> LeI32<Input>
     whole_number()
 }
 
-/// Parses a big-endian `u64`.
+/// Takes eight bytes, the highest first.
 #[inline]
 pub fn be_u64<Input>() -> BeU64<Input>
     ensures { result ≡ number_parser }
@@ -104,7 +104,7 @@ pub fn be_u64<Input>() -> BeU64<Input>
     whole_number()
 }
 
-/// Parses a little-endian `u64`.
+/// Takes eight bytes, the lowest first.
 #[inline]
 pub fn le_u64<Input>() -> LeU64<Input>
     ensures { result ≡ number_parser }
@@ -112,7 +112,7 @@ pub fn le_u64<Input>() -> LeU64<Input>
     whole_number()
 }
 
-/// Parses a big-endian `i64`, in two's complement.
+/// Takes eight bytes, the highest first; the value is the number less 256^8 where it is at least half of that.
 #[inline]
 pub fn be_i64<Input>() -> BeI64<Input>
     ensures { result ≡ number_parser }
@@ -120,7 +120,7 @@ pub fn be_i64<Input>() -> BeI64<Input>
     whole_number()
 }
 
-/// Parses a little-endian `i64`, in two's complement.
+/// Takes eight bytes, the lowest first; the value is the number less 256^8 where it is at least half of that.
 #[inline]
 pub fn le_i64<Input>() -> LeI64<Input>
     ensures { result ≡ number_parser }

@@ -1,4 +1,4 @@
-//! Orders of the bytes of a number. Our own: combine writes each of its parsers with a conversion.
+//! In which order the bytes of a number stand. Our own: the crate writes each of its parsers with a conversion.
 ghost use Rattle.std.specs.Prelude.{◌≡◌, ◌∷◌, [], ◌++◌, ◌+◌, ◌<◌, ◌^◌, length, refl};
 ghost use Rattle.combine_byte.specs.Numbers.{big_endian, little_endian};
 
@@ -6,10 +6,10 @@ ghost use Rattle.combine_byte.specs.Numbers.{big_endian, little_endian};
 pub trait Order<T> {
     ghost use Rattle.std.specs.Prelude.{◌≡◌, ℕ, List, [], ◌∷◌, ◌++◌, ◌+◌, ◌<◌, ◌^◌, length};
 
-    /// The number of these bytes.
+    /// The number that stands in these bytes.
     ghost number: { List T → ℕ };
 
-    /// Returns the number of `count` bytes and one more after them, given the number of the first.
+    /// Returns the number of `count` bytes and this one after them, from the number of the first.
     fn push(so_far: u64, count: u8, byte: T) -> u64
         requires few { count < 8 }
         requires fits { so_far < 256 ^ count }

@@ -1,4 +1,4 @@
-//! Searches for a place in the unread range, and the parser of the items before it.
+//! Searches for a place in what is unread, and the parser of what stands before it.
 ghost use Rattle.std.specs.Prelude.{◌≡◌, List};
 ghost use Rattle.combine_base.specs.Error.Errors.{AddsNothing};
 ghost use Rattle.combine_range.specs.KeptDistance.{kept, kept_is_meaning, kept_means_one};
@@ -17,12 +17,12 @@ use combine_range::kept_distance::{
 use combine_stream::range::{Range, RangeStream};
 use std::marker::PhantomData;
 
-/// The result of a search, in items from where it began.
+/// What a search finds, in items from where it began.
 #[derive(Debug, Drop, PartialEq)]
 pub enum TakeRange {
     /// The place.
     Found(usize),
-    /// No place; this number of items need not be searched again, whatever follows.
+    /// There is none; whatever follows, that many items need not be searched again.
     NotFound(usize),
 }
 
@@ -31,7 +31,7 @@ impl From<Option<usize>> for TakeRange {
 
     ghost from_gives = { λ place answer. answer ≡ found_place place };
 
-    /// Converts `None` to `NotFound(0)`, after which everything is searched again.
+    /// Turns `None` into what says nothing of what need not be searched again.
     #[inline]
     fn from(place: Option<usize>) -> TakeRange {
         match place {
@@ -41,18 +41,18 @@ impl From<Option<usize>> for TakeRange {
     }
 }
 
-/// A search in a range of a stream: by a function, or for bytes. Our own.
+/// What searches a range of a stream. Our own: a function, or a search for bytes.
 pub trait Searcher<Input: RangeStream>
 where
     Input::Range: Range,
 {
-    /// The precondition of `look`.
+    /// It may be asked.
     ghost callable: { Self → Type 0 };
 
-    /// The results in tokens.
+    /// What it finds in tokens.
     ghost search: { Self → Search Input.Token };
 
-    /// The results depend on the tokens alone.
+    /// It answers from the tokens alone.
     ghost settled: { Self → Type 0 };
 
     /// Searches a range.
@@ -60,14 +60,14 @@ where
         requires { callable self.now }
         ensures { (us : List Input.Token) → Input.RangeStream.spells range us → Searched Input.RangeStream.size (search self.now) us result };
 
-    /// A found place stays found.
+    /// What is found stays found.
     ghost stays: { (s : Self) → IsSearch (search s) };
 
-    /// There is one result.
+    /// There is one answer.
     ghost one: { (s : Self) → settled s → IsOneSearch (search s) };
 }
 
-/// Takes the items before the place that a search finds.
+/// What stands before the place that a search finds.
 ///
 /// The state is the distance that need not be searched again.
 #[derive(Drop)]
@@ -111,7 +111,6 @@ where
             TakeRange::Found(items) => match input.uncons_range(items) {
                 Ok(range) => {
                     if distance > 0 {
-                        // The range has the skipped items too.
                         return hand_out(start, position, input);
                     }
                     if items > 0 {
@@ -169,7 +168,7 @@ where
 
     ghost search = { λ s. asking Input.size Input.spells (answers_as (F.returns s.0) T.converts) };
 
-    /// All results of the function agree, on whatever ranges it is called.
+    /// However the function is asked, the answers agree.
     ghost settled = { λ s. IsOneSearch (asking Input.size Input.spells (answers_as (F.returns s.0) T.converts)) };
 
     #[inline(always)]

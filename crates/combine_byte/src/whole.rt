@@ -1,4 +1,4 @@
-//! The parser of a whole number, of any order, size and sign. Our own.
+//! The parser of a whole number, of whatever order, size and sign. Our own.
 ghost use Rattle.std.specs.Prelude.{◌≡◌, ◌<◌, ◌^◌};
 ghost use Rattle.combine_base.specs.Error.Errors.{AddsNothing};
 ghost use Rattle.combine_base.specs.Stream.Calls.{Passes};
@@ -12,22 +12,22 @@ use combine_base::refusal::no_token;
 use combine_base::stream::{Kind, Stream};
 use std::marker::PhantomData;
 
-/// A type of numbers that have a fixed number of bytes.
+/// A type of numbers that stand in a fixed number of bytes.
 pub trait Number: Drop {
     ghost use Rattle.std.specs.Prelude.{ℕ, ◌≤◌, ◌<◌, ◌^◌};
 
-    /// The number of bytes.
+    /// How many bytes they stand in.
     ghost width: { ℕ };
 
-    /// The number with this sum of bytes.
+    /// What a sum of bytes stands for.
     ghost of_sum: { ℕ → Self };
 
-    /// Returns the number of bytes.
+    /// Returns how many bytes they stand in.
     fn width() -> u8
         ensures value { result ≡ width }
         ensures few { result ≤ 8 };
 
-    /// Returns the number with this sum of bytes.
+    /// Returns what a sum of bytes stands for.
     fn from_sum(sum: u64) -> Self
         requires { sum < 256 ^ width }
         ensures { result ≡ Self.of_sum sum };
@@ -129,7 +129,7 @@ impl Number for i64 {
     }
 }
 
-/// The parser of a number of type `N` with its bytes in the order `O`.
+/// The parser of a number of type `N` whose bytes stand in the order `O`.
 ///
 /// It keeps no state: on need of more the stream is put back, and the next call begins again.
 #[derive(Drop)]
@@ -140,15 +140,15 @@ pub struct WholeNumber<Input, O, N> {
     number: PhantomData<N>,
 }
 
-/// Takes as many bytes as the number has: accepted committed, with the number of these bytes.
+/// Takes as many bytes as the number has: accepted committed, with the number that stands in them.
 ///
 /// # Errors
 ///
-/// Too few bytes of ended input are put back and refused peeked, with an error where the parser began, without expected items.
+/// Too few bytes of ended input are put back and refused peeked, with an error that stands where the parser began. Nothing is said to be expected.
 ///
 /// # Partial input
 ///
-/// Too few bytes of an open piece are put back, and the result is need of more.
+/// Too few bytes of an open piece are put back, and more is asked for.
 #[inline]
 pub fn whole_number<Input, O, N>() -> WholeNumber<Input, O, N>
     ensures { result ≡ number_parser }
@@ -160,7 +160,7 @@ pub fn whole_number<Input, O, N>() -> WholeNumber<Input, O, N>
     }
 }
 
-/// Returns the result if the bytes ended too early, with the stream put back to where they began.
+/// Returns the result where the bytes ended too early, with the stream put back to where they began.
 #[cold]
 fn too_few<V, Input: Stream>(
     start: Input::Checkpoint,
@@ -195,7 +195,6 @@ impl<Input: Stream, O: Order<Input::Token>, N: Number> Parser<Input> for WholeNu
         let start = input.checkpoint();
         let position = input.position();
         let mut sum: u64 = 0;
-        // The label names the loop's invariant.
         'bytes: for count in 0..N::width() {
             match input.uncons() {
                 Ok(byte) => sum = O::push(sum, count, byte),

@@ -6,7 +6,7 @@ use Rattle.ucd_table.specs.Rows.{in_ranges}
 use Rattle.ucd_derived.specs.AlphabeticRanges.{alphabetic_ranges}
 use Rattle.ucd_derived.specs.Binary.{is_alphabetic}
 
--- if one of the first two is true, one of all is
+-- one of the first two is one of all
 one_of_two : (a b c : Bool) → (a || b) ≡ true → true ≡ (a || (b || c))
 one_of_two true b c h = refl
 one_of_two false true c h = refl

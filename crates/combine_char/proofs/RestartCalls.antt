@@ -77,7 +77,7 @@ module _ {P T R V S Z E : Type 0} (w : World P T S E) (fresh : Z → Type 0) (m 
         let c = b.is.2 in
         unreset (around w fresh) again (outer new f2) x (j ∙ b.is.0) (record { count = y.count + n.count; taken = takes_more w.step y.count n.count old mid new y.taken n.taken; state = d }) (omega arith)
 
--- the same by the clause of such a call, in each mode
+-- the same by the clause of such a call, in first mode or not
 module _ {P T R V S Z E : Type 0} (w : World P T S E) (fresh : Z → Type 0) (m : Meaning P T R E V S) (old mid : View P T) (f0 f1 : Failures) where
   pub begins_accepted : (v : V) → Starts w m old mid f0 f1 (CommitOk v) → AnswersBegunAgain (around w fresh) m old mid f0 f1 (CommitOk v)
   begins_accepted v p = record { answers = λ first z z' d. accepted_too w fresh m p.state p.left first z z' d old mid f0 f1 v p.answers }
@@ -95,7 +95,7 @@ module _ {P T R V S Z E : Type 0} (w : World P T S E) (fresh : Z → Type 0) (m 
     pub begins_put_back : ResetTo w.counts_failures w.step marked mid new f1 f2 (Ok tt) → AnswersBegunAgain (around w fresh) m old new f0 f2 (CommitErr e)
     begins_put_back b = record { answers = λ first z z' d. put_back_too w fresh m p.state p.left first z z' d old mid f0 f1 e q p.answers marked i new f2 b }
 
-    -- the stream is still open
+    -- the stream is open still
     pub begins_open : ResetTo w.counts_failures w.step marked mid new f1 f2 (Ok tt) → new.is_open ≡ true
     begins_open b = rw (b.is.0 old i) (sym (same_mark w m (afresh w m p.state p.left old mid f0 f1) e p.answers) ∙ q.1)
 

@@ -1,4 +1,4 @@
--- lists of items, by the calls of an iterator over them
+-- lists that are spelled out, by the calls of an iterator of their items
 use Rattle.std.proofs.Common.{ℕ, ◌<◌, ◌^◌, ◌≡◌, ◌∙◌, List, length, Bool, Option, refl}
 use Rattle.std.specs.declared.slice.Iter.{Iter}
 use Rattle.std.specs.declared.str.Chars.{Chars}
@@ -24,7 +24,7 @@ use Rattle.combine_token.proofs.Lists.GivenItems.{listed_within, token_list_alik
 use Rattle.combine_token.proofs.Lists.ListClones.{iterated_within, refuses_within}
 use Rattle.combine_token.proofs.Lists.StdLists.{chars_gives, chars_is_iterated, chars_lists, slice_gives, slice_is_iterated, slice_lists}
 
--- an iterator over the characters of a text
+-- an iterator of the characters of a text
 module _ (items : Chars) (bs : List ℕ) (text : IsUtf8 bs) (e : chars_rest items ≡ bs) where
   abbrev clones : Chars → Chars → Type 0
   clones s r = chars_rest r ≡ chars_rest s
@@ -45,7 +45,7 @@ module _ (items : Chars) (bs : List ℕ) (text : IsUtf8 bs) (e : chars_rest item
     pub within_chars : IsListWithin (listed_tokens compares (chars bs)) (iterated_tokens clones makes chars_steps items compares)
     within_chars = listed_within clones makes chars_steps items (λ c. c) (chars bs) (chars_gives clones makes items bs text items items refl refl e) compares compares (λ x t b p. p)
 
--- an iterator over the items of a slice
+-- an iterator of the items of a slice
 module _ {A : Type 0} (items : Iter A) (xs : List A) (e : iter_rest items ≡ xs) where
   abbrev clones_slice : Iter A → Iter A → Type 0
   clones_slice s r = iter_rest r ≡ iter_rest s
@@ -66,7 +66,7 @@ module _ {A : Type 0} (items : Iter A) (xs : List A) (e : iter_rest items ≡ xs
     pub within_slice : IsListWithin (listed_tokens compares xs) (iterated_tokens clones_slice makes_slice iter_steps items (λ x. compares x.now))
     within_slice = listed_within clones_slice makes_slice iter_steps items (λ x. x.now) xs (slice_gives clones_slice makes_slice items xs items items refl refl e) (λ x. compares x.now) compares (λ x t b p. p)
 
--- a result of one list is a result of another list with the same facts, with the same values
+-- what is answered by one list, with some values, is answered by another of which the same is known, with the same values
 module _ {P T R V S E : Type 0} (w : World P T S E) (errors : Observers T R P E) (expected : Option (Info T R)) (l l' : TokenList T) (h : IsListWithin l l') (k : IsListWithin l' l) (gives gives' : V → Type 0) (alike : (v : V) → (gives v → gives' v) × (gives' v → gives v)) (matched : S → ℕ) (heapless : Type 0) (infallible : heapless) (adds adds' : List (ErrorItem T R) → Type 0) (r : CallRecord P T S) where
   pub given_answers : (result : ParseResult V E) → Answers w (token_list errors l expected gives matched heapless adds) r result → Answers w (token_list errors l' expected gives' matched (Unit {0}) adds') r result
   given_answers = answers_alike w (token_list errors l' expected gives' matched (Unit {0}) adds') (token_list errors l expected gives matched heapless adds) (token_list_alike l' l k h gives' gives (λ v. ((alike v).1, (alike v).0)) errors expected expected matched (Unit {0}) heapless (λ p. infallible, λ p. tt) adds' adds) r

@@ -1,4 +1,4 @@
--- a result with its value changed is one of the mapped parser, with the same error
+-- an answer with its value changed is one of the mapped parser, and its error the same
 use Rattle.combine_base.specs.Stream.View.{View}
 use Rattle.combine_base.specs.Error.Errors.{Observers}
 use Rattle.combine_base.specs.Parser.Meaning.{Meaning}
@@ -52,7 +52,7 @@ module _ {A B E : Type 0} (kind : E → Kind) (is_open : Bool) (says : Bool → 
   mapped_reasons (PeekErr e) (PeekOk b) p h = absurd p
   mapped_reasons (PeekErr e) (CommitErr d) p h = absurd p
 
--- the error of a pair is its part's
+-- the error of a pair, by that of its part
 pub pair_reasons : {P T R A B S Z E : Type 0} (errors : Observers T R P E) (m : Meaning P T R E (A × B) S) (first : Bool) (z : Z) (old new : View P T) (g : A × B → B → Type 0) (x : ParseResult (A × B) E) (y : ParseResult B E) → MapsValue g x y → Reasoned errors.kind new.is_open (m.refuses old new) x → ReasonedCall errors (whole_pair m) first z old new y
 pair_reasons errors m true z old new g x y p r = mapped_reasons errors.kind new.is_open (m.refuses old new) g x y p r
 pair_reasons errors m false z old new g x y p r = mapped_reasons errors.kind new.is_open (m.refuses old new) g x y p r

@@ -1,4 +1,4 @@
--- the meanings of the parsers of classes, each by its set and its text
+-- what the parsers of classes mean, each by its set and its text
 use Rattle.std.specs.Prelude.{ℕ, Bool, List, codes}
 use Rattle.combine_base.specs.Error.Errors.{Observers, Only}
 use Rattle.combine_base.specs.Error.Items.{Expected, Fixed}
@@ -8,7 +8,7 @@ use Rattle.combine_char.specs.NamedParser.{named}
 use Rattle.combine_char.specs.Restart.{whole_pair}
 use Rattle.combine_token.specs.Token.OneToken.{of_function, satisfied, takes_one}
 
--- a token of the set, with this text as expected in errors
+-- a token of the set, of which errors say the text
 abbrev pub takes_member : {P T R E S : Type 0} → Observers T R P E → (T → Bool) → List ℕ → Meaning P T R E T S
 takes_member errors members text = takes_one errors (satisfied (of_function members)) (Unit {0}) (Only (Expected (Fixed text)))
 

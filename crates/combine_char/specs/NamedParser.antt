@@ -1,11 +1,11 @@
--- a parser with another text in errors
+-- a parser of which errors say another text
 use Rattle.std.specs.Prelude.{ℕ, List}
 use Rattle.combine_base.specs.Error.Errors.{Only}
 use Rattle.combine_base.specs.Error.Items.{Expected, Fixed}
 use Rattle.combine_base.specs.Parser.Meaning.{Meaning, IsMeaning, MeansOne, MeansSame, Alike}
 
 module _ {P T R E V S : Type 0} (text : List ℕ) where
-  -- the same, but it adds only this text, as expected
+  -- the same, but it adds that text alone, as what was expected
   abbrev pub named : Meaning P T R E V S → Meaning P T R E V S
   named m = record {
     whole = m.whole;

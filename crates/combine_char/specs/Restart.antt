@@ -26,7 +26,7 @@ module _ {P T R E V S Z : Type 0} where
     refuses_from = λ s. h.refuses;
   }
 
--- the result of a call that begins again, in each mode
+-- what a call answers that begins again: in first mode or not
 pub record AnswersBegunAgain {P T R V S Z E : Type 0} (w : World P T Z E) (m : Meaning P T R E V S) (old new : View P T) (before after : Failures) (result : ParseResult V E) : Type 0 where
   pub answers : (first : Bool) (state left : Z) → w.fresh left → Answers w (begun_again m) (record { first = first; state = state; left = left; old = old; new = new; before = before; after = after }) result
 

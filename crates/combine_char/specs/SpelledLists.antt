@@ -1,4 +1,4 @@
--- lists that are compared with tokens, and shown in errors
+-- lists that are spelled out
 use Rattle.std.specs.Prelude.{◌≡◌, List, Bool, true, false}
 use Rattle.std.proofs.Common.{arith, ◌∙◌, sym}
 use Rattle.combine_base.specs.Error.Errors.{Only}
@@ -6,7 +6,7 @@ use Rattle.combine_base.specs.Error.Items.{ErrorItem, Expected, OfRange}
 use Rattle.combine_token.specs.Token.Lists.KnownLists.{listed_tokens}
 use Rattle.combine_token.specs.Token.Lists.TokenLists.{ListEndsOnce, ComparesOnce}
 
--- no token both fits an item and doesn't
+-- no token is found both to fit an item and not to
 pub record ComparesOnceBy {A T : Type 0} (compares : A → T → Bool → Type 0) : Type 0 where
   pub once : (a : A) (t : T) → compares a t true → compares a t false → ⊥
 
@@ -17,6 +17,6 @@ module _ {A T : Type 0} (compares : A → T → Bool → Type 0) (xs : List A) w
   pub listed_compares_once : ((a : A) (t : T) → compares a t true → compares a t false → ⊥) → ComparesOnce (listed_tokens compares xs)
   listed_compares_once h = record { one = λ n t p q. let e : p.0 ≡ q.0 = cc in h q.0 t (rw e at p.2) q.2 }
 
--- the expected item is one of these ranges
+-- what was expected is one of these ranges
 abbrev pub SaysRange : {T R : Type 0} → (R → Type 0) → List (ErrorItem T R) → Type 0
 SaysRange {R} shows is = (range : R) × shows range × Only (Expected (OfRange range)) is

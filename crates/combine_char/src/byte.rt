@@ -1,10 +1,10 @@
 //! Parsers of bytes.
 //!
-//! The parser of a class takes one byte of it: accepted committed, with that byte as the value.
+//! A parser of a class takes one byte of it: accepted committed, with that byte as the value.
 //!
 //! # Errors
 //!
-//! Another byte is put back and refused peeked, as is the end of ended input; the text of the class is expected.
+//! Another byte is put back and refused peeked, as is the end of ended input; the text of the class is said to be expected.
 ghost use Rattle.std.specs.Prelude.{◌≡◌};
 ghost use Rattle.combine_char.specs.TextParsers.{by, equal, in_bytes_parser};
 ghost use Rattle.combine_token.specs.Token.TokenParsers.{token_parser};
@@ -30,7 +30,7 @@ pub fn byte<Input>(byte: u8) -> Token<Input, u8>
     token(byte)
 }
 
-/// Takes the bytes of a list, one after another.
+/// Takes the bytes of the list, one after another.
 ///
 /// Its value is the list.
 ///
@@ -38,12 +38,12 @@ pub fn byte<Input>(byte: u8) -> Token<Input, u8>
 ///
 /// # Errors
 ///
-/// - A token that doesn't match, or the end of ended input, is refused: peeked if no token was matched before it, else committed.
-/// - The error of a committed mismatch has only the unexpected token. If nothing was matched, the list is expected, as a range.
+/// - A token that doesn't fit, or the end of ended input, refuses: peeked if no token was matched before it, else committed.
+/// - A committed mismatch says only which token stands there. The list, as a range, is said to be expected where nothing was matched.
 ///
 /// # Partial input
 ///
-/// The end of an open piece is need of more. Nothing is left unread: the state keeps the number of bytes that were matched.
+/// The end of an open piece is need of more. Nothing is left unread: the state keeps how many bytes were matched.
 ///
 /// # Examples
 ///
@@ -61,15 +61,15 @@ pub fn bytes<Input>(s: &'static [u8]) -> Bytes<Input>
     bytes_parser(s, Equal)
 }
 
-/// Takes as many bytes as the list has, as `bytes` does, each if `cmp` returns true for it.
+/// Takes as many bytes as the list has, as `bytes` does, each if `cmp` says that it fits.
 ///
 /// `cmp: Fn(u8, u8) -> bool`, or a `Compare`.
 ///
-/// `cmp` gets a byte of the list and the token at its place.
+/// `cmp` is given a byte of the list and the token at its place.
 ///
 /// # Differences from combine
 ///
-/// `cmp` is an `Fn`; combine takes an `FnMut`.
+/// `cmp` is an `Fn`, where the crate takes an `FnMut`.
 #[inline]
 pub fn bytes_cmp<C, Input>(s: &'static [u8], cmp: C) -> BytesCmp<Input, C>
     ensures { result ≡ in_bytes_parser s.entry (by cmp) }

@@ -1,4 +1,4 @@
-//! The bytes of a list, matched one by one. Our own: `bytes` and `bytes_cmp` consist of it.
+//! The bytes of a list, matched one by one. Our own, of which `bytes` and `bytes_cmp` are made.
 ghost use Rattle.std.specs.Prelude.{◌≡◌, ◌<◌, ◌^◌, ℕ, None, length};
 ghost use Rattle.std.specs.Slice.Iter.{iter_rest};
 ghost use Rattle.combine_base.specs.Stream.Calls.{Passes};
@@ -18,11 +18,11 @@ use combine_token::token::{TokensState, match_list};
 use std::marker::PhantomData;
 use std::slice::Iter;
 
-/// Ranges that can show a list of bytes in errors: those of a stream of bytes.
+/// What errors show a list of bytes by: the ranges of a stream of bytes.
 pub trait ShowsBytes: Copy {
     ghost use Rattle.std.specs.Prelude.{ℕ, List};
 
-    /// The ranges that show these bytes.
+    /// Which range may show these bytes.
     ghost shows: { List ℕ → Self → Type 0 };
 
     /// Returns a range that shows these bytes.
@@ -39,7 +39,7 @@ impl<'a> ShowsBytes for &'a [u8] {
     }
 }
 
-/// The ranges of a fed stream, which show nothing.
+/// As the ranges of a fed stream, which show nothing.
 impl ShowsBytes for () {
     ghost shows = { λ bytes range. Unit {0} };
 
@@ -51,9 +51,9 @@ impl ShowsBytes for () {
 ///
 /// Its value is the list.
 ///
-/// The error of a committed mismatch has the unexpected token, at the position where the call began.
+/// The error of a committed mismatch says which token stands there, at the position where the call began.
 ///
-/// On need of more nothing is left unread: the state keeps the number of bytes that were matched.
+/// On need of more nothing is left unread: the state keeps how many bytes were matched.
 #[derive(Drop)]
 pub struct BytesParser<Input, F> {
     bytes: &'static [u8],
@@ -99,7 +99,7 @@ where
         match_bytes(self.bytes, &self.fits, mode, input, state)
     }
 
-    /// Adds the list, as a range, as expected.
+    /// Adds the list as a range, as what was expected.
     #[inline]
     fn add_error(&mut self, error: &mut Tracked<Input::Error>) {
         let range = Input::Range::of_bytes(self.bytes);
@@ -149,7 +149,7 @@ where
     )
 }
 
-/// Returns an iterator over the bytes of a list, which are fewer than 2^64.
+/// Returns an iterator of the bytes of a list, which are fewer than 2^64.
 #[inline(always)]
 fn listed_items(bytes: &'static [u8]) -> Iter<'static, u8>
     ensures rest { iter_rest result ≡ bytes.now }

@@ -1,10 +1,10 @@
 //! Parsers of characters.
 //!
-//! The parser of a class takes one character of it: accepted committed, with that character as the value.
+//! A parser of a class takes one character of it: accepted committed, with that character as the value.
 //!
 //! # Errors
 //!
-//! Another character is put back and refused peeked, as is the end of ended input; the text of the class is expected.
+//! Another character is put back and refused peeked, as is the end of ended input; the text of the class is said to be expected.
 ghost use Rattle.std.specs.Prelude.{◌≡◌};
 ghost use Rattle.combine_char.specs.TextParsers.{by, equal, in_text_parser};
 ghost use Rattle.combine_token.specs.Token.TokenParsers.{token_parser};
@@ -30,7 +30,7 @@ pub fn char<Input>(char: char) -> Token<Input, char>
     token(char)
 }
 
-/// Takes the characters of a text, one after another.
+/// Takes the characters of the text, one after another.
 ///
 /// Its value is the text.
 ///
@@ -38,12 +38,12 @@ pub fn char<Input>(char: char) -> Token<Input, char>
 ///
 /// # Errors
 ///
-/// - A token that doesn't match, or the end of ended input, is refused: peeked if no token was matched before it, else committed.
-/// - The error of a committed mismatch has only the unexpected token. If nothing was matched, the text is expected.
+/// - A token that doesn't fit, or the end of ended input, refuses: peeked if no token was matched before it, else committed.
+/// - A committed mismatch says only which token stands there. The text is said to be expected where nothing was matched.
 ///
 /// # Partial input
 ///
-/// The end of an open piece is need of more. Nothing is left unread: the state keeps the number of characters that were matched.
+/// The end of an open piece is need of more. Nothing is left unread: the state keeps how many characters were matched.
 ///
 /// # Examples
 ///
@@ -61,15 +61,15 @@ pub fn string<Input>(s: &'static str) -> Str<Input>
     text_parser(s, Equal)
 }
 
-/// Takes as many characters as the text has, as `string` does, each if `cmp` returns true for it.
+/// Takes as many characters as the text has, as `string` does, each if `cmp` says that it fits.
 ///
 /// `cmp: Fn(char, char) -> bool`, or a `Compare`.
 ///
-/// `cmp` gets a character of the text and the token at its place.
+/// `cmp` is given a character of the text and the token at its place.
 ///
 /// # Differences from combine
 ///
-/// `cmp` is an `Fn`; combine takes an `FnMut`.
+/// `cmp` is an `Fn`, where the crate takes an `FnMut`.
 #[inline]
 pub fn string_cmp<C, Input>(s: &'static str, cmp: C) -> StrCmp<Input, C>
     ensures { result ≡ in_text_parser s.entry (by cmp) }

@@ -1,4 +1,4 @@
-//! Classes of tokens, and the parsers of single characters and bytes, which consist of them. Our own: combine writes each of its parsers with a predicate.
+//! Classes of tokens, and the parsers of single characters and bytes, which are made of them. Our own: the crate writes each of its parsers with a predicate.
 ghost use Rattle.std.specs.Prelude.{◌≡◌};
 ghost use Rattle.combine_char.specs.TextParsers.{in_class_parser, named_parser, whole_pair_parser};
 ghost use Rattle.combine_repeat.specs.ManyParsers.{skip_many_of};
@@ -15,7 +15,7 @@ use types::{
     Tab, Upper,
 };
 
-/// A fixed text of errors: a type of no size.
+/// A fixed text that errors say: a type of no size.
 pub trait Text {
     ghost use Rattle.std.specs.Prelude.{◌≡◌, ℕ, List};
 
@@ -27,9 +27,9 @@ pub trait Text {
         ensures { result.now ≡ bytes };
 }
 
-/// A class of tokens: a type of no size.
+/// A class of tokens: a type of no size that says which tokens are in it.
 ///
-/// Its text is expected in errors.
+/// Its text is what errors say was expected.
 pub trait Class<T> {
     ghost use Rattle.std.specs.Prelude.{◌≡◌, ℕ, Bool, List};
 
@@ -48,11 +48,11 @@ pub trait Class<T> {
         ensures { result ≡ members token };
 }
 
-/// Takes a token of the class: accepted committed, with that token as the value.
+/// Takes a token that is in the class: accepted committed, with that token as the value.
 ///
 /// # Errors
 ///
-/// Another token is put back and refused peeked, as is the end of ended input; the text of the class is expected.
+/// Another token is put back and refused peeked, as is the end of ended input; the text of the class is said to be expected.
 #[inline]
 pub fn in_class<Input, C>() -> ClassParser<Input, C>
     ensures { result ≡ in_class_parser }
@@ -97,7 +97,7 @@ pub fn hex_digit<Input>() -> HexDigit<Input>
     in_class()
 }
 
-/// Takes white space: of characters, by std's `char::is_whitespace`; of bytes, a tab, line feed, form feed, carriage return or space.
+/// Takes white space: of characters, as std's `char::is_whitespace` has it; of bytes, a tab, line feed, form feed, carriage return or space.
 #[inline]
 pub fn space<Input>() -> Space<Input>
     ensures { result ≡ in_class_parser }
@@ -145,7 +145,7 @@ pub fn letter<Input>() -> Letter<Input>
     in_class()
 }
 
-/// Takes a letter or a digit. It is a character with the property Alphabetic or of a general category of numbers (Nd, Nl or No), or a byte that is a letter or a digit of ASCII.
+/// Takes a letter or a digit: a character with the property Alphabetic or of a general category of numbers (Nd, Nl or No), or a byte that is a letter or a digit of ASCII.
 #[inline]
 pub fn alpha_num<Input>() -> AlphaNum<Input>
     ensures { result ≡ in_class_parser }
@@ -171,7 +171,7 @@ pub fn crlf<Input>() -> CrLf<Input>
     naming(whole_pair((in_class(), newline())))
 }
 
-/// Skips white space: `skip_many(space())`, with `whitespaces` as expected in errors.
+/// Passes over white space, as long as there is some: `skip_many(space())`, of which errors say `whitespaces`.
 #[inline]
 pub fn spaces<Input>() -> Spaces<Input>
     ensures { result ≡ named_parser (skip_many_of in_class_parser) }

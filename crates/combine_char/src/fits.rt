@@ -1,14 +1,14 @@
-//! Comparisons of the items of a list with tokens. Our own: combine passes a closure.
+//! How the items of a list are compared with tokens. Our own: the crate passes a closure.
 ghost use Rattle.std.specs.Prelude.{◌≡◌};
 ghost use Rattle.combine_char.specs.SpelledLists.{ComparesOnceBy};
 
 use combine_base::function::Compare;
 
-/// A comparison of items with tokens, by which lists are matched.
+/// A comparison of items with tokens by which lists are matched.
 pub trait Fits<A, T>: Compare<A, T> {
     ghost use Rattle.std.specs.Prelude.{true, false};
 
-    /// The condition under which no token both fits and doesn't.
+    /// What it owes so that a token isn't found both to fit and not to.
     ghost determined: { Self → Type 0 };
 
     ghost single: { (f : Self) → determined f → (a : A) (t : T) → Self.returns f a t true → Self.returns f a t false → ⊥ };
@@ -32,7 +32,7 @@ impl<T: PartialEq + Copy> Fits<T, T> for Equal {
     ghost single = { λ f d a t p q. cc };
 }
 
-/// A token fits an item if the function returns true for the item and the token.
+/// A token fits an item if the function says so, which is given the item and the token.
 #[derive(Drop)]
 pub struct By<C>(pub(crate) C);
 

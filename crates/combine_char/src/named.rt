@@ -1,4 +1,4 @@
-//! A parser with a fixed text in errors. Our own: `expected` with a text that is a type.
+//! A parser of which errors say one text. Our own, as `expected` with a text that is a type.
 ghost use Rattle.std.specs.Prelude.{◌≡◌};
 ghost use Rattle.combine_char.specs.TextParsers.{named_parser, parser_named};
 ghost use Rattle.combine_char.specs.NamedParser.{named, named_is_meaning, named_means_one};
@@ -9,16 +9,16 @@ use combine_base::parser::{Outputs, ParseMode, Parser};
 use combine_base::stream::Stream;
 use std::marker::PhantomData;
 
-/// Parses as its part, but in errors the text is expected, and nothing that the part expects.
+/// A parser as its part, but the text is said to be expected, and nothing of what the part expects.
 ///
-/// Its state is the part's.
+/// The state is that of the part.
 #[derive(Drop)]
 pub struct Named<P, N> {
     parser: P,
     name: PhantomData<N>,
 }
 
-/// Parses as `part`, but in errors the text is expected.
+/// Parses as the parser, but errors say that the text was expected.
 #[inline]
 pub fn naming<P, N>(parser: P) -> Named<P, N>
     ensures { result ≡ named_parser parser }
@@ -56,7 +56,7 @@ impl<Input: Stream, P: Parser<Input>, N: Text> Parser<Input> for Named<P, N> {
         self.parser.parse_mode(mode, input, state)
     }
 
-    /// Adds the text as expected.
+    /// Adds the text, as what was expected.
     #[inline]
     fn add_error(&mut self, error: &mut Tracked<Input::Error>) {
         error.error.add_expected(&Info::Static(N::text()));

@@ -1,4 +1,4 @@
-//! A pair that is taken whole, or on need of more put back whole. Our own.
+//! A pair that is taken as a whole, or not at all where more is needed. Our own.
 ghost use Rattle.std.specs.Prelude.{◌≡◌};
 ghost use Rattle.combine_base.specs.Parser.Answer.{world};
 ghost use Rattle.combine_base.specs.Parser.Meaning.{MeansSame};
@@ -11,13 +11,13 @@ use combine_base::error::{ErrorOffset, ParseResult, Tracked};
 use combine_base::parser::{Outputs, ParseMode, Parser};
 use combine_base::stream::{Positioned, ResetStream, Stream, StreamOnce, needs_more};
 
-/// Parses as its part, a parser of pairs, and returns the second value.
+/// A parser as its part, a parser of pairs, with the second value.
 ///
 /// It keeps no state: on need of more the stream is put back, and the next call begins again.
 #[derive(Drop)]
 pub struct WholePair<P>(P);
 
-/// Returns the second value of a parser of pairs, which begins again after need of more.
+/// Gives the second value of a parser of pairs, which begins again after need of more.
 #[inline]
 pub fn whole_pair<P>(pair: P) -> WholePair<P>
     ensures { result ≡ whole_pair_parser pair }
@@ -55,7 +55,7 @@ impl<Input: Stream, A: Drop, B: Drop, P: Parser<Input, Output = (A, B)>> Parser<
         )
     }
 
-    /// Adds the items of its part.
+    /// Adds what its part adds.
     #[inline]
     fn add_error(&mut self, error: &mut Tracked<Input::Error>) {
         self.0.add_error(error);
@@ -74,7 +74,7 @@ impl<Input: Stream, A: Drop, B: Drop, P: Parser<Input, Output = (A, B)>> Parser<
     ghost single = { λ p l d. whole_pair_means_one _ (P.meaning (pair_of p)) (P.single (pair_of p) l d) };
 }
 
-/// Runs a parser from its start; on need of more the stream is put back.
+/// Makes one call of a parser from its start; on need of more the stream is put back.
 fn begin_again<Input: Stream, P: Parser<Input>>(
     part: &mut P,
     input: &mut Input,

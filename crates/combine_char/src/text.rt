@@ -1,4 +1,4 @@
-//! The characters of a text, matched one by one. Our own: `string` and `string_cmp` consist of it.
+//! The characters of a text, matched one by one. Our own, of which `string` and `string_cmp` are made.
 ghost use Rattle.std.specs.Prelude.{◌≡◌, ◌<◌, ◌^◌, ℕ, None, length};
 ghost use Rattle.std.specs.Str.{IsUtf8, chars};
 ghost use Rattle.std.specs.Str.Iter.{chars_rest};
@@ -25,9 +25,9 @@ use std::str::Chars;
 ///
 /// Its value is the text.
 ///
-/// The error of a committed mismatch has the unexpected token, at the position where the call began.
+/// The error of a committed mismatch says which token stands there, at the position where the call began.
 ///
-/// On need of more nothing is left unread: the state keeps the number of characters that were matched.
+/// On need of more nothing is left unread: the state keeps how many characters were matched.
 #[derive(Drop)]
 pub struct TextParser<Input, F> {
     text: &'static str,
@@ -70,7 +70,7 @@ impl<Input: Stream, F: Fits<char, Input::Token>> Parser<Input> for TextParser<In
         match_text(self.text, &self.fits, mode, input, state)
     }
 
-    /// Adds the text as expected.
+    /// Adds the text, as what was expected.
     #[inline]
     fn add_error(&mut self, error: &mut Tracked<Input::Error>) {
         error.error.add_expected(&Info::Static(self.text));
@@ -115,7 +115,6 @@ fn characters(text: &'static str) -> Chars<'static>
     ensures valid { IsUtf8 text.now }
     ensures few { length text.now < 2 ^ 64 }
 {
-    // Brings the bound on the length into scope.
     let _bytes = text.len();
     text.chars()
 }

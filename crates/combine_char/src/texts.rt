@@ -3,7 +3,7 @@ ghost use Rattle.std.specs.Prelude.{codes};
 
 use crate::class::Text;
 
-/// The text of `crlf`.
+/// What `crlf` says was expected.
 #[derive(Drop)]
 pub struct CrLf;
 
@@ -15,7 +15,7 @@ impl Text for CrLf {
     }
 }
 
-/// The text of `spaces`.
+/// What `spaces` says was expected.
 #[derive(Drop)]
 pub struct Spaces;
 

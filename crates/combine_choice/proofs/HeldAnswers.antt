@@ -1,4 +1,4 @@
--- a call of the parser that a variant holds is a call of the variant
+-- a parser that a variant holds answers for it
 use Rattle.std.proofs.Common.{◌≡◌, inl, inr, Bool, true, false, arith, subst, refl}
 use Rattle.std.specs.Prelude.{Option, Some, None}
 use Rattle.combine_base.specs.Stream.View.{View}
@@ -16,7 +16,7 @@ use Rattle.combine_choice.specs.Choice.Choices.{refused, last_is, firm_or}
 use Rattle.combine_choice.proofs.Choices.ChoiceOutcomes.{Tries, tries_asks, tries_fails, tries_commit_ok, tries_peek_ok, tries_peeks}
 use Rattle.combine_choice.specs.HeldParser.{HoldsState, Started, held_started, held, held_refuses, held_rest, held_lost}
 
--- the state that it begins from is valid
+-- the state that it begins from is one that it may be given
 pub started_valid : {S : Type 0} (fresh valid : S → Type 0) → ((s : S) → fresh s → valid s) → (o : Option S) (s : S) → HoldsState valid o → held_started fresh o s → valid s
 started_valid fresh valid d None s h b = d s b
 started_valid fresh valid d (Some t) s h b = rw b h
@@ -70,7 +70,7 @@ module _ {P T R V S S' E : Type 0} (step : P → T → P) (errors : Observers T 
     pub held_answers : {m' : Meaning P T R E V S'} → held pick m ≡ m' → (answer : ParseResult V E) → Answers w m inside answer → Answers (world step errors counts_failures fresh') m' outside answer
     held_answers e answer p = subst (λ x. Answers (world step errors counts_failures fresh') x outside answer) e (answered answer p)
 
--- the error of its refusal is that of the parser inside
+-- the error of its refusal is the one inside
 module _ {P T R V S S' E : Type 0} {fresh valid : S → Type 0} (pick : S' → Option S) {m : Meaning P T R E V S} (h : IsMeaning fresh valid m) where
   inside_says : (s : S) (o : Option S) → held_started fresh o s → (v w : View P T) (c : Bool) (e : E) → m.refuses_from s v w c e → held_refuses m o v w c e
   inside_says s None d v w c e p = (h.reasons s d v w c e).0 p

@@ -1,4 +1,4 @@
--- a parser that one variant of several holds, with its state in one variant of the choice's state
+-- a parser that one variant of several holds: its state stands in one place of theirs
 use Rattle.std.specs.Prelude.{◌≡◌, Option, Some, None, ◌↔◌}
 use Rattle.combine_base.specs.Stream.View.{View}
 use Rattle.combine_base.specs.Parser.Outcome.{Outcome}
@@ -24,7 +24,7 @@ module _ {P T R E V S : Type 0} where
   held_refuses m (Some s) = m.refuses_from s
 
 module _ {P T R E V S S' : Type 0} (pick : S' → Option S) where
-  -- the meaning of the parser; any state that isn't its own is the beginning
+  -- what the parser means; a state that isn't its own is the beginning
   abbrev pub held : Meaning P T R E V S → Meaning P T R E V S'
   held m = record { whole = m.whole; rest = λ s. held_rest m (pick s); lost = λ s v. held_lost m (pick s) v; keeps = m.keeps; puts_back = m.puts_back; heapless = m.heapless; adds = m.adds; refuses = m.refuses; refuses_from = λ s. held_refuses m (pick s) }
 

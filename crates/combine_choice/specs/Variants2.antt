@@ -1,4 +1,4 @@
--- a parser that is one of two, with the meaning of the one that it holds
+-- a parser that is one of two: it means the one that it holds
 use Rattle.std.specs.Prelude.{Option, Some, None}
 use Rattle.combine_base.specs.Parser.Meaning.{Meaning, IsMeaning, MeansOne}
 use Rattle.combine_choice.specs.HeldParser.{HoldsState, held, held_is_meaning, held_means_one}
@@ -14,7 +14,7 @@ module _ {S0 S1 : Type 0} where
   pick_right (Left s) = None
   pick_right (Right s) = Some s
 
-  -- the property of the value held
+  -- what holds of the value that it holds
   abbrev pub each_2 : (S0 → Type 0) → (S1 → Type 0) → Either S0 S1 → Type 0
   each_2 f0 f1 (Left s) = f0 s
   each_2 f0 f1 (Right s) = f1 s
@@ -43,7 +43,7 @@ module _ {P T R Error V X0 X1 S0 S1 : Type 0} {m0 : X0 → Meaning P T R Error V
   variant_2_means_one h0 h1 (Left x) l d = held_means_one pick_left g0 g0 (each_2 g0 g1) (each_2 g0 g1) (each_2_left g0 g1) (each_2_left g0 g1) (m0 x) (h0 x l d)
   variant_2_means_one h0 h1 (Right x) l d = held_means_one pick_right g1 g1 (each_2 g0 g1) (each_2 g0 g1) (each_2_right g0 g1) (each_2_right g0 g1) (m1 x) (h1 x l d)
 
--- `each_2` of weaker properties
+-- what each value of a variant has each has
 pub each_2_into : {S0 S1 : Type 0} {f0 g0 : S0 → Type 0} {f1 g1 : S1 → Type 0} → ((s : S0) → f0 s → g0 s) → ((s : S1) → f1 s → g1 s) → (s : Either S0 S1) → each_2 f0 f1 s → each_2 g0 g1 s
 each_2_into h0 h1 (Left s) h = h0 s h
 each_2_into h0 h1 (Right s) h = h1 s h

@@ -1,10 +1,10 @@
-//! `or` and `optional`, `Either`, and the macros `choice!` and `dispatch!`.
+//! A choice of two parsers, one of several by kind, and the macros of both.
 #![tactic(auto)]
 
 pub mod or;
 pub mod variants;
 
-/// Makes a parser that tries any number of parsers in order, each of which may have its own type.
+/// Chooses among any number of parsers, in order, each of which may have a type of its own.
 ///
 /// It is `or` of the first and of the choice of the later ones.
 #[macro_export]
@@ -13,9 +13,10 @@ macro_rules! choice {
     ($first:expr, $($later:expr),+ $(,)?) => { $crate::or::or($first, $crate::choice!($($later),+)) };
 }
 
-/// Matches a value, and is the parser of the first arm that fits, as one type.
+/// Matches a value, and is the parser of the first arm that fits, as one type: `Either` of the first arm's parser and of
+/// one of the later ones.
 ///
-/// The type is `Either` of the first arm's parser and of one of the later ones, named `Dispatch3` to `Dispatch8` for three to eight arms. All arms' parsers have the same `Output`.
+/// All arms have parsers of one output. `Dispatch3` to `Dispatch8` name the type where three to eight arms are there.
 ///
 /// # Examples
 ///
@@ -38,7 +39,7 @@ macro_rules! dispatch {
     };
 }
 
-/// Collects the arms of `dispatch!`: those made, a `right` for each of them, and the rest.
+/// Gathers the arms of `dispatch!`: those that are made, a `right` for each of them, and those that are left.
 #[macro_export]
 macro_rules! dispatch_arms {
     ($value:expr; [$($made:tt)*]; [$($right:ident)*]; $pattern:pat $(if $guard:expr)? => $parser:expr,) => {
@@ -60,7 +61,7 @@ macro_rules! dispatch_arms {
     };
 }
 
-/// Wraps a parser of `dispatch!` in one `Either::Right` for each arm before it.
+/// Puts a parser of `dispatch!` into as many `Either::Right` as it has arms before it.
 #[macro_export]
 macro_rules! dispatched {
     (; $parser:expr) => { $parser };

@@ -1,4 +1,4 @@
-//! `or` and `optional`.
+//! Choices: the first parser that isn't refused peeked gives the result.
 ghost use Rattle.std.specs.Prelude.{◌≡◌};
 ghost use Rattle.combine_base.specs.Error.Errors.{IsFault};
 ghost use Rattle.combine_choice.specs.Choice.Alternatives.{AfterRefusal, PeeksNoFault, both_merged};
@@ -18,14 +18,14 @@ use types::{Optional, Or};
 
 /// The running alternative of a choice, and its state.
 ///
-/// The default is `Peek`. A choice keeps an alternative only on need of more.
+/// A choice makes it by `Default`, which is `Peek`, and keeps an alternative in it on need of more alone.
 #[derive(Drop)]
 pub enum OrState<S, T> {
-    /// No alternative is running.
+    /// No alternative runs.
     Peek,
-    /// The first alternative is running, from this state.
+    /// The first runs, from that state.
     A(S),
-    /// The second alternative is running, from this state.
+    /// The second runs, from that state.
     B(T),
 }
 
@@ -41,13 +41,13 @@ impl<S, T> Default for OrState<S, T> {
 
 /// Parses as the first of two parsers that isn't refused peeked.
 ///
-/// The second begins where the first began.
+/// The second begins where the first did.
 ///
 /// # Errors
 ///
-/// - If both are refused peeked, so is the choice, with their errors merged in order.
-/// - A committed refusal or a fault ends the choice.
-/// - The choice adds two faults: `Reset` if the stream can't be put back, and `Memory` if there is no memory for an item of the merged error.
+/// - If both are refused peeked so is the choice, and their errors are merged in order.
+/// - A committed refusal ends the choice, and so does a fault.
+/// - Two faults are the choice's own: `Reset`, if the stream can't be put back, and `Memory`, if an item of the merged error finds none.
 ///
 /// # Partial input
 ///
@@ -55,7 +55,7 @@ impl<S, T> Default for OrState<S, T> {
 ///
 /// # Differences from combine
 ///
-/// combine's choice stays with the alternative that took tokens before the cut. It also carries offsets with errors; here errors are merged pairwise, once all alternatives are refused.
+/// The crate's choice stays with the alternative that took tokens before the cut. It also carries offsets with errors; here these are merged pairwise, once all are refused.
 ///
 /// # Examples
 ///
@@ -73,17 +73,17 @@ pub fn or<P, Q>(p: P, q: Q) -> Or<P, Q>
     Or(p, q)
 }
 
-/// Parses as `parser` and returns its value, or `None` if `parser` is refused peeked.
+/// Gives the value of a parser, or `None` where it is refused peeked.
 ///
-/// `None` is accepted peeked and takes nothing.
+/// `None` is accepted peeked, and nothing is taken.
 ///
 /// # Errors
 ///
-/// A committed refusal and a fault are those of `parser`. If the stream can't be put back, that is the committed fault `Reset`.
+/// A committed refusal and a fault are those of the parser. If the stream can't be put back, that is the committed fault `Reset`.
 ///
 /// # Partial input
 ///
-/// Need of more is that of `parser`, whose state is kept.
+/// Need of more is that of the parser, and the parser's own state is kept.
 ///
 /// # Examples
 ///
@@ -101,9 +101,9 @@ pub fn optional<P>(parser: P) -> Optional<P>
     Optional(parser)
 }
 
-/// `or` is associative.
+/// The law that `or` is associative.
 ///
-/// On every list `or(or(a, b), c)` and `or(a, or(b, c))` have the same outcomes from the start; they leave tokens unread and allocate alike, and add the same items to an error. The call does nothing; its contract is the law.
+/// On every list `or(or(a, b), c)` and `or(a, or(b, c))` have the same outcomes from the start; they leave tokens unread and ask for memory alike, and add the same items to an error. The call does nothing; its contract is the law.
 pub fn or_is_associative<
     Input: Stream,
     A: Parser<Input>,
@@ -115,9 +115,9 @@ pub fn or_is_associative<
         (⟦<Or<A, Or<B, C>> as Parser<Input>>⟧.meaning (or_parser a.now (or_parser b.now c.now))) }
 {}
 
-/// Returns the result of a choice whose first alternative was refused peeked, given the result of the later ones. Our own.
+/// Returns the result of a choice whose first alternative was refused peeked, of the result of the later ones. Our own.
 ///
-/// If those are refused peeked too, the errors are merged in order.
+/// If they are refused peeked too, the errors are merged in order.
 #[inline(always)]
 pub fn after_refusal<O, T: Copy, R: Copy, P: Ord, E: ParseError<T, R, P>>(
     first: Tracked<E>,

@@ -1,4 +1,4 @@
-//! `Either`, and the types of `dispatch!`.
+//! Parsers that are one of several, each of which means the one that it holds.
 
 pub mod either;
 

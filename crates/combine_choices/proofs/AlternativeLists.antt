@@ -4,7 +4,7 @@ use Rattle.combine_base.specs.Parser.Meaning.{Meaning, MeansSame}
 use Rattle.combine_base.proofs.Parsers.SameMeanings.{same_none, same_more}
 use Rattle.combine_choices.specs.ListChoice.{AllSame}
 
--- the rest of a list from an index on
+-- what stands from an index on
 pub drop_at : {X : Type 0} (xs : List X) (i : ℕ) (d : X) → i < length xs → drop i xs ≡ get_or xs i d ∷ drop (i + 1) xs
 drop_at xs i d l = drop-cons xs i d l ∙ ap (λ n. get_or xs i d ∷ drop n xs) (let b : suc i ≡ i + 1 = omega arith in b)
 
@@ -30,7 +30,7 @@ module _ {X P T R E V S : Type 0} (m : X → Meaning P T R E V S) where
   same_set (a ∷ xs) (b ∷ ys) zero d z h l k = (same_more (m a) (m b) (m z) h.0 k, h.1)
   same_set (a ∷ xs) (b ∷ ys) (suc i) d z h l k = (h.0, same_set xs ys i d z h.1 (omega arith) k)
 
--- an index within has an element
+-- something stands at an index within
 pub drop_within : {X : Type 0} (xs : List X) (i : ℕ) → i < length xs → (x : X) × (ys : List X) × (drop i xs ≡ x ∷ ys)
 drop_within [] i l = absurd (omega arith)
 drop_within (x ∷ xs) zero l = (x, xs, refl)

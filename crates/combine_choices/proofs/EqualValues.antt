@@ -1,4 +1,4 @@
--- properties of values, from those of equal ones
+-- what is known of values, of what they are equal to
 use Rattle.std.proofs.Common.{◌≡◌, refl, subst}
 
 module _ {A B C D : Type 0} (F : A → B → C → D → Type 0) {a a' : A} {b b' : B} {c c' : C} {d d' : D} where

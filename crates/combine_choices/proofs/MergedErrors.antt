@@ -1,4 +1,4 @@
--- the error of a choice over a list of alternatives, by their runs one after another
+-- the error of a choice over a list of alternatives, by how they are run one after another
 use Rattle.std.proofs.Common.{ℕ, zero, suc, ◌≡◌, inl, inr, List, [], ◌∷◌, Bool, true, false, drop, length, refl, subst, sym}
 use Rattle.std.specs.declared.cmp.Ordering.{Ordering}
 use Rattle.combine_base.specs.Stream.View.{View}
@@ -22,7 +22,7 @@ use Rattle.combine_choices.specs.declared.choice.slice.SliceState.TheVariants.{P
 use Rattle.combine_choices.proofs.RefusedAlternatives.{IsSettled}
 
 module _ {X P T R E V S : Type 0} (s : Observers T R P E) (cmp : P → P → Ordering) (m : X → Meaning P T R E V S) (v : View P T) where
-  -- the errors of the remaining alternatives make up an error of the whole, after an error and the view that its parser left
+  -- what those that are left say makes up an error of the whole, after an error and the view that its parser left
   pub record MakesUpError (whole : View P T → Bool → E → Type 0) (ys : List X) (left : View P T) (so_far : E) : Type 0 where
     pub commits : (w : View P T) (e : E) → one_commits s cmp m ys v w e → whole w true e
     pub merged : (w : View P T) (e : E) → merges s cmp m so_far left ys v w e → whole w false e
@@ -69,7 +69,7 @@ module _ {X P T R E V S : Type 0} (s : Observers T R P E) (cmp : P → P → Ord
     merging u (CommitErr e) i h = reasons_fault s.kind w.is_open (whole w) e kinds.Memory h.0 tt
     merging u (PeekErr t) i h = absurd i
 
-    -- the next had another result
+    -- the next answered something else
     pub next_reasons : (answer : ParseResult V E) → Reasoned s.kind w.is_open (refusals (m x) v w) answer → (result : ParseResult V E) → IsSettled result → AfterRefusal s (both_merged s cmp) so_far answer result → Reasoned s.kind w.is_open (whole w) result
     next_reasons (CommitOk a) r result i h = rw h.is (reasons_ok s.kind w.is_open (whole w) a)
     next_reasons (PeekOk a) r result i h = rw h.is (reasons_peek_ok s.kind w.is_open (whole w) a)

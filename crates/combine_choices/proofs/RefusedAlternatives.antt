@@ -1,4 +1,4 @@
--- alternatives of a list, refused peeked one after another: the result of the later ones is the choice's
+-- alternatives of a list, refused peeked one after another: what the later ones answer is the choice's answer
 use Rattle.std.proofs.Common.{ℕ, ◌<◌, ◌≤◌, ◌+◌, ◌≡◌, inl, inr, List, [], ◌∷◌, Bool, true, false, drop, arith, ap, sym, subst, refl, ◌∙◌}
 use Rattle.std.specs.declared.cmp.Ordering.{Ordering}
 use Rattle.combine_base.specs.Stream.View.{View, Takes, Moves, extended, MayFollow}
@@ -67,7 +67,7 @@ module _ {X P T R V S E : Type 0} (w : World P T S E) (errors : Observers T R P 
     pub heapless : every m (λ a. a.heapless) xs → every m (λ a. a.heapless) ys
     pub peeked : IsPeeked old.is_open why
 
-  -- the first of the remaining alternatives is tried
+  -- the first of those that are left is tried
   abbrev pub TriesOne : X → List X → Bool → S → View P T → Failures → Type 0
   TriesOne x ys first s now so_far = Tries w (λ (s : SliceState S). s ≡ Peek) (m x) (first_alternative m ys) (choice_of errors cmp m xs) first s now so_far began given old before
 
@@ -144,18 +144,18 @@ alternative_begins {X} {P} {T} {R} {E} {V} {S} w errors cmp valid m xs i x ys he
     at_here g k = subst (λ zs. every m g zs) here (every_drop m g i xs k)
 
 module _ {P T R E V S S' : Type 0} {w : World P T S E} {m : Meaning P T R E V S} {peek : S'} {at : S → S'} {first : Bool} {given : S} {kept : S'} {old new : View P T} {before after : Failures} where
-  -- a peeked refusal of an alternative is no fault
+  -- what an alternative peeks is no fault
   pub alternative_no_fault : (answer : ParseResult V E) → CallsAlternative w m peek at first given kept old new before after answer → PeeksNoFault w.kind answer
   alternative_no_fault (CommitOk v) t = tt
   alternative_no_fault (PeekOk v) t = tt
   alternative_no_fault (CommitErr e) t = tt
   alternative_no_fault (PeekErr e) t = no_fault w m (record { first = first; state = given; left = t.left; old = old; new = new; before = before; after = after }) e t.answers
 
-  -- a call of an alternative refuses as its meaning does
+  -- a call of an alternative refuses with what it means to refuse with
   pub alternative_meant : {answer : ParseResult V E} → CallsAlternative w m peek at first given kept old new before after answer → Reasoned w.kind new.is_open (begun_refuses m first given old new) answer → Reasoned w.kind new.is_open (MeantRefusal (begun m first given) (begun_refuses m first given) old new) answer
   alternative_meant t r = reasoned_meant t.answers r
 
--- a result that isn't a peeked refusal
+-- an answer that isn't a peeked refusal
 abbrev pub IsSettled : {V E : Type 0} → ParseResult V E → Type 0
 IsSettled (CommitOk v) = Unit {0}
 IsSettled (PeekOk v) = Unit {0}
@@ -182,7 +182,7 @@ module _ {X P T R V S E : Type 0} (step : P → T → P) (errors : Observers T R
     abbrev run_of : S → CallRecord P T S
     run_of left = record { first = first; state = s; left = left; old = now; new = new; before = f; after = after }
 
-    -- an alternative's result is the choice's, unless it is a peeked refusal
+    -- an alternative's answer is the choice's, if it isn't a peeked refusal
     pub alternative_settles : Now → (result : ParseResult V E) → IsSettled result → CallsIt result → Answers outer (choice_of errors cmp m xs) whole_run result
     alternative_settles z (CommitOk v) i t = tries_commit_ok inner (λ s. s ≡ Peek) (m x) (first_alternative m ys) (choice_of errors cmp m xs) (run_of t.left) whole_run z refl refl v (t.ends (λ a. a)) t.answers
     alternative_settles z (PeekOk v) i t = tries_peek_ok inner (λ s. s ≡ Peek) (m x) (first_alternative m ys) (choice_of errors cmp m xs) (run_of t.left) whole_run z refl refl v (t.ends (λ a. a)) t.answers
@@ -203,14 +203,14 @@ module _ {X P T R V S E : Type 0} (step : P → T → P) (errors : Observers T R
             subst (λ zs. running_lost m zs left v) here a
     alternative_settles z (PeekErr t) i k = absurd i
 
-    -- out of memory for the merged error
+    -- want of memory for the merged error
     unstored : Now → (t : Tracked E) (e : E) → CallsIt (PeekErr t) → (errors.kind e ≡ kinds.Memory) × (errors.heapless → ⊥) → Answers outer (choice_of errors cmp m xs) whole_run (CommitErr e)
     unstored z t e k h =
         let c = peeked_refusal inner (m x) (run_of k.left) (errors.kind t.error) k.answers.is in
         let l : Leaves outer whole_run = record { count = c.leaves.count; taken = subst (λ v. Takes step c.leaves.count v new) z.same c.leaves.taken; state = k.ends (λ a. a) } in
         record { is = rw h.0 (λ f l. h.1 f, l) }
 
-    -- the same after peeked refusals
+    -- so is what comes after peeked refusals
     pub later_settles : Now → (so_far : E) (answer result : ParseResult V E) → IsSettled result → CallsIt answer → AfterRefusal errors (both_merged errors cmp) so_far answer result → Answers outer (choice_of errors cmp m xs) whole_run result
     later_settles z so_far (CommitOk v) result i t h = rw h.is (alternative_settles z (CommitOk v) tt t)
     later_settles z so_far (PeekOk v) result i t h = rw h.is (alternative_settles z (PeekOk v) tt t)
@@ -255,7 +255,7 @@ module _ {X P T R V S E : Type 0} (step : P → T → P) (errors : Observers T R
         by_kind kinds.Reset p = absurd p
         by_kind kinds.Lost p = absurd p
 
-    -- the stream couldn't be put back for the next
+    -- the stream could not be put back for the next
     pub refusing_unreset : (ys : List X) (now : View P T) (so_far : Failures) (why : Kind) → RefusedBefore inner errors cmp m xs began given old before ys now so_far why → (k : Kind) → (k ≡ kinds.Reset) × Moves step now new × (so_far.resets < after.resets) → left ≡ Peek → (e : E) → errors.kind e ≡ k → Answers outer (choice_of errors cmp m xs) ended_run (CommitErr e)
     refusing_unreset ys now so_far why h k i l e q =
         let z = i.1 in

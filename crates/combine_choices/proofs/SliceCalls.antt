@@ -1,4 +1,4 @@
--- a call of the choice over a slice: where it begins, and the call over no alternatives
+-- a call of the choice over a slice: where it begins, and that over no alternatives
 use Rattle.std.proofs.Common.{ℕ, zero, suc, ◌<◌, ◌≡◌, inl, List, [], ◌∷◌, Bool, true, false, length, drop, arith, refl, sym, subst}
 use Rattle.std.specs.declared.cmp.Ordering.{Ordering}
 use Rattle.combine_base.specs.Stream.View.{View}
@@ -23,7 +23,7 @@ module _ {X P T R V S E : Type 0} (w : World P T (SliceState S) E) (errors : Obs
   abbrev pub BeginsSlice : SliceState S → Bool → SliceState S → View P T → Failures → Type 0
   BeginsSlice s first given v f = Tries w w.fresh (choice_of errors cmp m xs) refused (choice_of errors cmp m xs) false s v f first given v f
 
-  -- from the kept state
+  -- from the state that is kept
   pub begins_kept : (s given : SliceState S) (first : Bool) → first ≡ false → given ≡ s → (v : View P T) (f : Failures) → BeginsSlice s first given v f
   begins_kept s given first e q v f = record {
     same = refl;
@@ -68,7 +68,7 @@ module _ {X P T R V S E : Type 0} (w : World P T (SliceState S) E) (errors : Obs
   past_last : (first : Bool) (given : SliceState S) (j : ℕ) (s : S) → first ≡ false → given ≡ At j s → drop j xs ≡ [] → (v : View P T) (o : Outcome V) → first_alternative m xs v o → begun (choice_of errors cmp m xs) first given v o
   past_last first given j s e q n v o i = rw (e, q) (subst (λ zs. running_or_later m (first_alternative m xs) zs s v o) (sym n) i)
 
-  -- in each way to begin from the start
+  -- in each way to begin afresh
   pub slice_afresh : (first : Bool) (given : SliceState S) → BeginsAfresh first given (length xs) → (v : View P T) (o : Outcome V) → first_alternative m xs v o → begun (choice_of errors cmp m xs) first given v o
   slice_afresh first given (InFirst e) = first_mode first given e
   slice_afresh first given (AtPeek e q) = at_peek first given e q
@@ -91,9 +91,9 @@ module _ {X P T R V S E : Type 0} (step : P → T → P) (errors : Observers T R
   empty_answers xs e l (CommitErr k) h = record { is = let i = h.is in rw i.0 (λ f l. i.1 f, record { count = 0; taken = takes_none step v; state = l }) }
   empty_answers xs e l (PeekErr t) h = record { is = let i = h.is.0 in rw i (record { meant = refuses_whole xs e first given; leaves = record { count = 0; taken = takes_none step v; state = l }; failures = λ s. refl }) }
 
--- the items that the alternatives from an index on add to an error
+-- what the alternatives add to an error, from one place on
 module _ {X P T R V S E : Type 0} (errors : Observers T R P E) (m : X → Meaning P T R E V S) where
-  -- the items of the remaining alternatives complete those of all
+  -- what those from here on add makes up what all do
   pub record Adding (xs ys : List X) (old now : E) : Type 0 where
     pub rest : (e : E) → AddsItems errors (every m (λ a. a.heapless) ys) (adds_all m ys) now e → AddsItems errors (every m (λ a. a.heapless) xs) (adds_all m xs) old e
 

@@ -1,4 +1,4 @@
--- a choice over a list of alternatives, whose state is the index and the state of the running one; a choice of choices is one choice of all their alternatives, in order
+-- a choice over a list of alternatives, whose state is the running one's place and its state; a choice of choices is one choice of all their alternatives, in order
 use Rattle.std.specs.Prelude.{ℕ, zero, suc, ◌≡◌, ◌⊎◌, List, [], ◌∷◌, drop, true, false, ◌↔◌, ◌++◌, refl}
 use Rattle.std.specs.List.{All, AllZip, AllByRecursion}
 use Rattle.std.specs.declared.cmp.Ordering.{Ordering}
@@ -28,7 +28,7 @@ module _ {X P T R E V S : Type 0} (m : X → Meaning P T R E V S) where
   first_alternative [] = refused
   first_alternative (x ∷ xs) = OrElse ((m x).whole) (first_alternative xs)
 
-  -- the running alternative goes on, then the later ones; r where none is running
+  -- the running alternative goes on, and then the later ones; r where none runs
   abbrev pub running_or_later : Reading P T V → List X → S → Reading P T V
   running_or_later r [] s = r
   running_or_later r (x ∷ xs) s = OrElse ((m x).rest s) (first_alternative xs)
@@ -46,12 +46,12 @@ module _ {X P T R E V S : Type 0} (m : X → Meaning P T R E V S) where
   chosen_lost xs Peek v = ⊥
   chosen_lost xs (At i s) v = running_lost (drop i xs) s v
 
-  -- a property of the meaning of every alternative
+  -- what holds of the meaning of every alternative
   abbrev pub every : (Meaning P T R E V S → Type 0) → List X → Type 0
   every f [] = Unit {0}
   every f (x ∷ xs) = f (m x) × every f xs
 
-  -- the items that the alternatives add to an error, in order
+  -- what the alternatives add to an error, in order
   abbrev pub adds_all : List X → List (ErrorItem T R) → Type 0
   adds_all [] is = is ≡ []
   adds_all (x ∷ xs) is = Together ((m x).adds) (adds_all xs) is
@@ -100,7 +100,7 @@ module _ {X P T R E V S : Type 0} (m : X → Meaning P T R E V S) where
     rest_one xs h Peek d = first_one xs h
     rest_one xs h (At i s) d = goes_one (first_alternative xs) (first_one xs h) (drop i xs) (every_drop (MeansOne valid) i xs h) s d
 
-  -- alternatives that mean the same, one by one
+  -- alternatives that mean the same, each in its place
   abbrev pub AllSame : List X → List X → Type 0
   AllSame = AllZip (λ x y. MeansSame (m x) (m y))
 

@@ -1,4 +1,4 @@
--- one alternative's call in a choice, and contracts of calls over the alternatives of a slice, by the stream before and after them
+-- one alternative's call in a choice, and what calls over the alternatives of a slice promise, by the stream before and after them
 use Rattle.std.specs.Prelude.{◌≡◌, ◌<◌, ◌≤◌, ℕ, Bool, true, false, List, drop}
 use Rattle.combine_base.specs.Stream.View.{View}
 use Rattle.combine_base.specs.Error.Errors.{Observers, Only}
@@ -22,7 +22,7 @@ use Rattle.combine_base.specs.declared.stream.StreamOnce as stream
 use Rattle.combine_choices.specs.ListChoice.{AllSame, choice_of, slice_valid}
 
 module _ {P T R V S S' E : Type 0} (w : World P T S E) (m : Meaning P T R E V S) (peek : S') (at : S → S') where
-  -- the alternative's result; on need of more its state is kept in the choice's, otherwise none is
+  -- the alternative's answer; on need of more its state is kept in the choice's, and else none is
   pub record CallsAlternative (first : Bool) (given : S) (kept : S') (old new : View P T) (before after : Failures) (result : ParseResult V E) : Type 0 where
     pub left : S
     pub answers : Answers w m (record { first = first; state = given; left = left; old = old; new = new; before = before; after = after }) result
@@ -36,18 +36,18 @@ module _ {V T R P E : Type 0} (s : Observers T R P E) (place : P) where
   no_alternative (CommitErr e) = (s.kind e ≡ kinds.Memory) × (s.heapless → ⊥)
   no_alternative (PeekErr t) = (s.kind t.error ≡ kinds.Refused) × HasItems s kinds.Refused place (Only choice_is_empty) t.error
 
-  -- refused peeked with its message, unless there was no memory for it
+  -- refused peeked with its message, unless that found no memory
   pub record NoAlternative (result : ParseResult V E) : Type 0 where
     pub is : no_alternative result
 
 module _ {S : Type 0} (first : Bool) (given : SliceState S) (count : ℕ) where
-  -- a call begins from the start: in first mode, if nothing is kept, or if no alternative of `count` has the kept index
+  -- a call begins afresh: in first mode, where nothing is kept, and where no alternative of so many has the kept index
   pub data BeginsAfresh : Type 0 where
     InFirst : first ≡ true → BeginsAfresh
     AtPeek : first ≡ false → given ≡ Peek → BeginsAfresh
     PastLast : first ≡ false → (index : ℕ) (kept : S) → given ≡ At index kept → count ≤ index → BeginsAfresh
 
-  -- the alternative that the call resumes, and its state
+  -- the alternative that it goes on with, and its state
   abbrev pub resumes_alternative : SliceState S → Type 0
   resumes_alternative Peek = BeginsAfresh
   resumes_alternative (At index kept) = (first ≡ false) × (given ≡ At index kept) × (index < count)

@@ -1,4 +1,4 @@
-//! `choice`, and the trait of its alternatives.
+//! Choices: the first alternative that isn't refused peeked gives the result.
 ghost use Rattle.std.specs.Prelude.{◌≡◌};
 ghost use Rattle.combine_choices.specs.ChoiceParsers.{choice_parser};
 
@@ -16,9 +16,9 @@ pub use combine_choice::or::{OrState, optional, or, or_is_associative};
 pub use slice::{Slice, SliceState};
 use types::Choice;
 
-/// The type of a choice's value over a stream, as [`Outputs`](combine_base::parser::Outputs) has it for a parser.
+/// The value that a choice of these alternatives gives over a stream, as [`Outputs`](combine_base::parser::Outputs) has it for a parser.
 pub trait ChoiceOutputs<Input> {
-    /// The type of the value.
+    /// The value of an acceptance.
     type Output: Drop;
 }
 
@@ -26,7 +26,7 @@ pub trait ChoiceOutputs<Input> {
 ///
 /// # Errors
 ///
-/// If all are refused peeked, so is the choice, with their errors merged in order. A committed refusal or a fault of an alternative ends the choice.
+/// If all are refused peeked so is the choice, and their errors are merged in order. A committed refusal of an alternative ends the choice, and so does a fault.
 ///
 /// # Partial input
 ///
@@ -34,7 +34,7 @@ pub trait ChoiceOutputs<Input> {
 ///
 /// # Differences from combine
 ///
-/// combine's choice stays with the alternative that took tokens before the cut.
+/// The crate's choice stays with the alternative that took tokens before the cut.
 pub trait ChoiceParser<Input: Stream>: ChoiceOutputs<Input> {
     ghost use Rattle.std.specs.Prelude.{true, false};
     ghost use Rattle.combine_base.specs.Parser.Meaning.{Meaning, IsMeaning, MeansOne, MeansSame};
@@ -43,22 +43,22 @@ pub trait ChoiceParser<Input: Stream>: ChoiceOutputs<Input> {
     ghost use Rattle.combine_base.specs.Error.Errors.{AddsItems};
     ghost use Rattle.combine_base.specs.Stream.Calls.{Passes};
 
-    /// The kept state: the running alternative and its state.
+    /// What is kept while more input is needed: the running alternative and its state.
     type PartialState: Default + Drop;
 
-    /// Precondition of a call on the alternatives.
+    /// What a call needs of the alternatives.
     ghost lawful: { Self → Type 0 };
 
-    /// Premise on the caller's functions under which there is one outcome.
+    /// What the caller's functions owe so that there is one outcome.
     ghost determined: { Self → Type 0 };
 
-    /// The states that a call may get.
+    /// The states that a call may be given.
     ghost valid: { Self.PartialState → Type 0 };
 
-    /// The meaning: the outcomes on a view, from the start and from a state, and the errors of refusals.
+    /// Which outcomes the choice has on a view, from the start and from a state, and which errors its refusals have.
     ghost meaning: { Self → Meaning Input.Position Input.Token Input.Range Input.Error Self.Output Self.PartialState };
 
-    /// Chooses from the start or from the kept state, as a parser's `parse_mode` parses.
+    /// Chooses, afresh or from the kept state, as `parse_mode` of a parser parses.
     fn parse_mode_choice<M: ParseMode>(
         &mut self,
         mode: M,
@@ -74,14 +74,14 @@ pub trait ChoiceParser<Input: Stream>: ChoiceOutputs<Input> {
         ensures answers { AnswersCall Input.StreamOnce Input.Error.observers Self.PartialState.is_default (meaning self.old) (M.first mode) state.old state.new input.old input.new result }
         ensures refuses { ReasonedCall Input.Error.observers (meaning self.old) (M.first mode) state.old (Input.view input.old) (Input.view input.new) result };
 
-    /// Adds each alternative's items to an error, in order.
+    /// Adds to an error what each alternative adds, in order.
     fn add_error_choice(&mut self, error: &mut Tracked<Input::Error>)
         requires { lawful self.old }
         ensures lawful { lawful self.new }
         ensures same { MeansSame (meaning self.old) (meaning self.new) }
         ensures says { AddsItems Input.Error.observers (meaning self.old).heapless (meaning self.old).adds error.old.error error.new.error };
 
-    /// Chooses as from a default state, whatever the state is.
+    /// Chooses as from a default state, whatever the state held.
     final fn parse_first(
         &mut self,
         input: &mut Input,
@@ -99,7 +99,7 @@ pub trait ChoiceParser<Input: Stream>: ChoiceOutputs<Input> {
         self.parse_mode_choice(FirstMode, input, state)
     }
 
-    /// Chooses from the kept state.
+    /// Goes on from the kept state.
     final fn parse_partial(
         &mut self,
         input: &mut Input,
@@ -164,14 +164,14 @@ impl<'a, Input: Stream, P: ChoiceParser<Input>> ChoiceParser<Input> for &'a mut 
 
 /// Parses as the first of several alternatives that isn't refused peeked.
 ///
-/// The alternatives are a tuple of 1 to 8 parsers, an array, or a [`Slice`]. Each begins where the choice began, with its own state.
+/// The alternatives stand in a tuple of 1 to 8 parsers, an array, or a [`Slice`]. Each begins where the choice did, with a state of its own.
 ///
 /// # Errors
 ///
-/// - If all are refused peeked, so is the choice, with their errors merged in order.
-/// - A committed refusal or a fault ends the choice.
-/// - A choice of an empty array or slice is refused peeked, with the message `parser choice is empty`, even if more input may come.
-/// - The choice adds two faults: `Reset` if the stream can't be put back, and `Memory` if there is no memory for an item of an error.
+/// - If all are refused peeked so is the choice, and their errors are merged in order.
+/// - A committed refusal ends the choice, and so does a fault.
+/// - A choice of an empty array or slice is refused peeked, with the message `parser choice is empty`, also where more input may come.
+/// - Two faults are the choice's own: `Reset`, if the stream can't be put back, and `Memory`, if an item of an error finds none.
 ///
 /// # Partial input
 ///
@@ -179,7 +179,7 @@ impl<'a, Input: Stream, P: ChoiceParser<Input>> ChoiceParser<Input> for &'a mut 
 ///
 /// # Differences from combine
 ///
-/// combine's choice stays with the alternative that took tokens before the cut. Its alternatives of an array or a slice share one state. Its tuples have up to 25 alternatives, and its arrays up to 32.
+/// The crate's choice stays with the alternative that took tokens before the cut. In it the alternatives of an array or a slice share one state. A tuple has up to twenty-five alternatives there, and an array up to 32.
 ///
 /// # Examples
 ///
@@ -189,7 +189,7 @@ impl<'a, Input: Stream, P: ChoiceParser<Input>> ChoiceParser<Input> for &'a mut 
 /// }
 /// ```
 ///
-/// `"one"` is accepted; `"three"` is refused committed, since `two` took its first letter and has no `attempt`.
+/// `"one"` is accepted; `"three"` is refused committed, since `two` took its first letter and no `attempt` stands round it.
 #[inline]
 pub fn choice<P>(alternatives: P) -> Choice<P>
     ensures { result ≡ choice_parser alternatives }

@@ -1,4 +1,4 @@
-//! `choice` among the parsers of a tuple, an array or a slice.
+//! Choices among the parsers of a tuple, an array or a slice.
 #![tactic(auto)]
 
 pub mod choice;

@@ -1,4 +1,4 @@
--- the errors of refusals of `attempt`, and of a mapped parser
+-- the error that a refusal of `attempt` has, and that of a mapped parser
 use Rattle.std.proofs.Common.{ℕ, ◌≡◌, Bool, true, false, if◌then◌else◌, ap, sym, subst, refl, ◌∙◌, nat_lt}
 use Rattle.std.specs.Prelude.{Result, Ok, Err}
 use Rattle.combine_base.specs.Stream.View.{View, Takes, advanced}
@@ -85,7 +85,7 @@ refusal kinds.Reset b i q = absurd (cc)
 refusal kinds.Lost b i q = absurd (cc)
 
 module _ {P T R V S E : Type 0} (step : P → T → P) (m : Meaning P T R E V S) (d : ℕ) (first : Bool) (state : TryState S) (s : S) (old now left new : View P T) (distance : d ≡ (if first then 0 else state.distance)) (same : s ≡ state.part) (taken : Takes step d old now) where
-  -- an error of the part is one that `attempt` may have, with the stream put back
+  -- an error of the part is one that `attempt` may have, where the stream was put back
   from_part : (k : Bool) (e : E) → begun m first s now (Refused k) → begun_refuses m first s now left k e → new ≡ old → begun_refuses (attempted step m) first state old new false e
   from_part k e i p b = by_first first distance i p
     where

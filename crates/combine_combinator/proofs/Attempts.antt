@@ -1,4 +1,4 @@
--- one call of `attempt`: it passes over the distance, and each result of the part there is a result of it
+-- one call of `attempt`: it has passed over the distance, and each answer of the part there is an answer of it
 use Rattle.std.proofs.Common.{ℕ, ◌+◌, ◌<◌, ◌≤◌, ◌≡◌, Bool, true, false, ◌||◌, if◌then◌else◌, arith, ap, sym, subst, refl, ◌∙◌, length-append, nat_lt, Ok, Err, List, Result, length, ltb-true, ltb-false}
 use Rattle.combine_base.specs.Stream.View.{View, Takes, Moves, advanced, extended, MayFollow}
 use Rattle.combine_base.specs.Stream.Advance.{advanced_extended}
@@ -19,11 +19,11 @@ use Rattle.combine_base.specs.declared.error.result.ParseResult.TheVariants.{Com
 use Rattle.combine_combinator.specs.Attempt.{IsFreshTry, with_peeked_refusal, refusing, Attempts, LosesTry, Short, LostWithin, attempted, KeepsTokenDistance, PutsBack, keeps_token_distance}
 use Rattle.combine_combinator.specs.declared.combinator.types.TryState.{TryState}
 
--- a refusal of the part after which the stream couldn't be put back: the fault of the reset
+-- a part's refusal that could not be put back: the fault of the reset
 pub attempt_not_put_back : {P T E S V : Type 0} (counts_failures : Type 0) (step : P → T → P) (marked : View P T → Type 0) (old new : View P T) (before after : Failures) (kind : E → Kind) (fresh : S → Type 0) (state left : S) (t : Tracked E) (why : Kind) (result : ParseResult V E) → ResetTo counts_failures step marked old new before after (Err why) → (e : E) × (result ≡ CommitErr e) × (kind e ≡ why) → fresh left → PutsBack counts_failures step marked old new before after kind fresh state left t result
 attempt_not_put_back counts_failures step marked old new before after kind fresh state left t why result r e f = record { is = rw e.1 (rw e.2 r, f) }
 
--- the tokens read in an earlier call and in this one
+-- what was read in an earlier call and what in this one
 read_before : {V : Type 0} (d n : ℕ) (i : Outcome V) → (0 < n → IsCommitted i) → with_peeked_refusal (after (d + n) (nat_lt 0 (d + n)) i) ≡ with_peeked_refusal (after d (nat_lt 0 d) (after n false i))
 read_before d n (Accepted v j k) h = by_test (nat_lt 0 n) refl
   where
@@ -45,7 +45,7 @@ read_before d n (Refused k) h = refl
 read_before d n Undecided h = refl
 
 module _ {P T R V S E : Type 0} (w : World P T S E) (m : Meaning P T R E V S) where
-  -- a call that began so reaches the part's call, d tokens later
+  -- a call that began so has come to the part's call so, d tokens later
   pub record ReachesTriedPart (d : ℕ) (first : Bool) (state : TryState S) (old : View P T) (before : Failures) (held : ℕ) (part : S) (now : View P T) (so_far : Failures) : Type 0 where
     pub distance : d ≡ (if first then 0 else state.distance)
     pub same : part ≡ state.part
@@ -145,7 +145,7 @@ module _ {P T R V S E : Type 0} (w : World P T S E) (m : Meaning P T R E V S) wh
     leaves : u.new ≡ r.new → IsFreshTry w.fresh u.left → Leaves w r → Leaves (around w (IsFreshTry w.fresh)) u
     leaves n l p = record { count = d + p.count; taken = rw n (takes_more w.step d p.count u.old r.old r.new z.taken p.taken); state = l }
 
-    -- a fault is unchanged
+    -- a fault stays what it is
     pub try_faults : (e : E) → refusing (w.kind e) ≡ false → Answers w m r (CommitErr e) → u.new ≡ r.new → u.after ≡ r.after → u.left ≡ record { distance = held; part = r.left } → Answers (around w (IsFreshTry w.fresh)) (attempted w.step m) u (CommitErr e)
     try_faults e i p n a l = record { is = by_kind (w.kind e) i p.is }
       where
@@ -164,7 +164,7 @@ module _ {P T R V S E : Type 0} (w : World P T S E) (m : Meaning P T R E V S) wh
         by_kind kinds.Reset j y = (let b = z.resets in let c = y.0 in rw a (omega arith), left y.1)
         by_kind kinds.Lost j y = subst (loses (around w (IsFreshTry w.fresh)) (attempted w.step m) u) f (losing_by r.first refl (sym f) y)
 
-    -- the stream couldn't be put back
+    -- the stream could not be put back
     try_unreset : (k : Kind) (result : ParseResult V E) → (e : E) × (result ≡ CommitErr e) × (w.kind e ≡ k) → (k ≡ kinds.Reset) × Moves w.step r.new u.new × (r.after.resets < u.after.resets) → r.before.resets ≤ r.after.resets → u.left.distance ≡ held → w.fresh u.left.part → (j : ℕ) → Takes w.step j r.old r.new → Answers (around w (IsFreshTry w.fresh)) (attempted w.step m) u result
     try_unreset k result i h y n l j p =
         let s = h.1 in
@@ -173,7 +173,7 @@ module _ {P T R V S E : Type 0} (w : World P T S E) (m : Meaning P T R E V S) wh
         let b = h.2 in
         rw i.1 (record { is = rw (i.2, h.0) (omega arith, record { count = d + j + s.count; taken = takes_more w.step (d + j) s.count u.old r.new u.new t s.taken; state = (n ∙ z.none, l) }) })
 
-    -- a refusal after which the stream is put back, or couldn't be
+    -- a refusal that is put back, or could not be
     try_put_back : (marked : View P T → Type 0) (t : Tracked E) (result : ParseResult V E) → (u.new ≡ u.old → (w.counts_failures → u.after ≡ r.after) → u.left ≡ record { distance = held; part = r.left } → Answers (around w (IsFreshTry w.fresh)) (attempted w.step m) u (PeekErr t)) → marked u.old → PutsBack w.counts_failures w.step marked r.new u.new r.after u.after w.kind w.fresh r.left u.left.part t result → r.before.resets ≤ r.after.resets → u.left.distance ≡ held → Leaves w r → Answers (around w (IsFreshTry w.fresh)) (attempted w.step m) u result
     try_put_back marked t (CommitOk v) back i h y n p = absurd h.is
     try_put_back marked t (PeekOk v) back i h y n p = absurd h.is
@@ -191,7 +191,7 @@ module _ {P T R V S E : Type 0} (w : World P T S E) (m : Meaning P T R E V S) wh
     pub try_refuses_back : (marked : View P T → Type 0) (e : E) (t : Tracked E) (result : ParseResult V E) → t.error ≡ e → refusing (w.kind e) ≡ true → ((w.kind e ≡ kinds.End) × (r.new.is_open ≡ true) → ⊥) → Answers w m r (CommitErr e) → marked u.old → PutsBack w.counts_failures w.step marked r.new u.new r.after u.after w.kind w.fresh r.left u.left.part t result → r.before.resets ≤ r.after.resets → u.left.distance ≡ held → Answers (around w (IsFreshTry w.fresh)) (attempted w.step m) u result
     try_refuses_back marked e t result j f q p i h y n = try_put_back marked t result (try_refuses e t j f q p) i h y n (left_settled w m r e q p)
 
-    -- need of more: nothing is taken, and the next call passes over all that was read
+    -- need of more: nothing is taken, and all that was read is passed over by the next call
     asks : (p : Asks w m r) → u.new ≡ u.old → u.left ≡ record { distance = d + p.count; part = r.left } → (w.counts_failures → u.after ≡ r.after) → Asks (around w (IsFreshTry w.fresh)) (attempted w.step m) u
     asks p n l a = record {
       is_open = sym (takes_open w.step d u.old r.old z.taken) ∙ p.is_open;
@@ -240,7 +240,7 @@ module _ {P T R V S E : Type 0} (w : World P T S E) (m : Meaning P T R E V S) wh
             let h = (g (d + y.count) (takes_more w.step d y.count u.old r.old r.new z.taken y.taken)).is in
             asks y h.1 (l ∙ ap (λ c. record { distance = c; part = r.left }) h.0) h.2
 
-    -- need of more, whose distance is kept, or couldn't be measured
+    -- need of more, whose distance is kept, or could not be measured
     pub try_keeps_distance : (marked : View P T → Type 0) (e : E) (result : ParseResult V E) → (w.kind e ≡ kinds.End) × (r.new.is_open ≡ true) → Answers w m r (CommitErr e) → marked u.old → KeepsTokenDistance w.counts_failures w.step marked r.new u.new r.after u.after w.kind w.fresh (record { distance = held; part = r.left }) u.left e result → r.before.resets ≤ r.after.resets → Answers (around w (IsFreshTry w.fresh)) (attempted w.step m) u result
     try_keeps_distance marked e result q p i h y = by_measured h.distance h.measures h.keeps
       where
@@ -252,7 +252,7 @@ module _ {P T R V S E : Type 0} (w : World P T S E) (m : Meaning P T R E V S) wh
             try_unreset k result j.0 (g (d + a.count) u.old i t).is y j.1 j.2 a.count a.taken
 
   module _ (d : ℕ) (u : CallRecord P T (TryState S)) (e : d ≡ (if u.first then 0 else u.state.distance)) where
-    -- the kept distance couldn't be passed over
+    -- the kept distance could not be passed over
     pub try_lost : (k j : Kind) (result : ParseResult V E) → j ≡ losing k → (x : E) × (result ≡ CommitErr x) × (w.kind x ≡ j) → PassesOver w.counts_failures w.step u.old u.new u.before u.after d (Err k) → IsFreshTry w.fresh u.left → Answers (around w (IsFreshTry w.fresh)) (attempted w.step m) u result
     try_lost k j result q i h l = rw i.1 (record { is = rw (i.2, q) (by_kind k h.is.0) })
       where

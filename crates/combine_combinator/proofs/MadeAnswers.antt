@@ -1,4 +1,4 @@
--- the results of `lazy` and `factory`, by those of the parser that was made
+-- the answers of `lazy` and `factory`, by those of the parser that was made
 use Rattle.std.proofs.Common.{◌≡◌, ◌⊎◌, inl, inr, Bool, true, false, List, refl, sym, subst, arith}
 use Rattle.combine_base.specs.Error.Errors.{Observers}
 use Rattle.combine_base.specs.Error.Items.{ErrorItem}
@@ -26,7 +26,7 @@ use Rattle.combine_combinator.specs.declared.lazy.made.Made.{Made}
 use Rattle.combine_combinator.specs.declared.lazy.made.MadeState.{MadeState}
 use Rattle.combine_combinator.specs.declared.lazy.made.MadeState.TheVariants.{Unmade, Kept}
 
--- a kept parser that a call begins with may be kept, and its state is valid
+-- a kept parser that a call begins with is one that may be kept, and its state is valid
 pub made_kept_valid : {N U : Type 0} (kept : N → Type 0) (valid : U → Type 0) {first : Bool} {given : MadeState N U} {l : Made N U} → RunsFrom is_unmade first given (Kept l) → valid_made kept valid given → kept l.parser × valid l.state
 made_kept_valid {N} {U} kept valid {first} {given} {l} r v = by_mode first r
   where
@@ -34,7 +34,7 @@ made_kept_valid {N} {U} kept valid {first} {given} {l} r v = by_mode first r
     by_mode true r = absurd (let e = r.afresh refl in cc)
     by_mode false r = subst (valid_made kept valid) (sym (r.kept refl)) v
 
--- a parser that a lawful maker makes for a stream is makable
+-- what a lawful maker makes for a stream is makable
 module _ {I P T N C V F : Type 0} (view : I → View P T) (marks : I → C → V → Type 0) (failures : I → Failures) (callable : F → Unit {0} → I → Type 0) (returns : F → Unit {0} → I → N → I → Type 0) (lawful : N → Type 0) (f : F) where
   abbrev made_for : View P T → N → Type 0
   made_for = MadeAt view (returns f tt)
@@ -54,7 +54,7 @@ module _ {N Input V U Checkpoint T R P E : Type 0} (p : parser.Ghosts N Input U 
   abbrev kept : N → Type 0
   kept = KeptOf p.lawful p.meaning makable
 
-  -- a lawful parser that is makable may be kept
+  -- a lawful one that is makable may be kept
   pub makable_kept : (n : N) → p.lawful n → makable n → kept n
   makable_kept n l m = record { is_lawful = l; parser = n; is_given = m; same = same_none (p.meaning n) }
 
@@ -64,7 +64,7 @@ module _ {N Input V U Checkpoint T R P E : Type 0} (p : parser.Ghosts N Input U 
   abbrev all_world : World P T (MadeState N U) E
   all_world = world i.step observers i.counts_failures is_unmade
 
-  -- the state left is valid
+  -- the state that is left is valid
   pub made_leaves_valid : {input left : Input} {l : Made N U} {state : MadeState N U} {y : ParseResult V E} → kept l.parser → CalledMade p i observers fresh input left l state y → valid_made kept p.valid state
   made_leaves_valid {input} {left} {l} {state} {y} d g = by_need g.leaves
     where
@@ -72,7 +72,7 @@ module _ {N Input V U Checkpoint T R P E : Type 0} (p : parser.Ghosts N Input U 
       by_need (inl j) = rw j.1 (record { is_lawful = g.lawful; parser = d.parser; is_given = d.is_given; same = same_more _ _ _ d.same g.same }, j.2)
       by_need (inr j) = rw j.1 tt
 
-  -- If the call begins from the parser that was made, its result is that parser's.
+  -- Where the parser that was made stands for what the call begins from, the call answers what that parser does.
   module _ {input left : Input} {l : Made N U} {state : MadeState N U} {y : ParseResult V E} (d : kept l.parser) (g : CalledMade p i observers fresh input left l state y) where
     abbrev here : Reading P T V
     here = (p.meaning l.parser).rest l.state
@@ -117,7 +117,7 @@ module _ {N Input V U Checkpoint T R P E : Type 0} (p : parser.Ghosts N Input U 
       answered = by_answer y g.answers g.leaves
 
   module _ {input left : Input} {l : Made N U} {state : MadeState N U} {y : ParseResult V E} (d : kept l.parser) (g : CalledMade p i observers fresh input left l state y) where
-    -- a call that resumes the kept parser
+    -- a call that goes on with the parser that is kept
     pub resumes_made : Answers all_world all (call_from (Kept l) state (i.view input) (i.view left) (i.failures input) (i.failures left)) y
     resumes_made = answered d g (Kept l) (progress_here own_world ((p.meaning l.parser).rest l.state) ((p.meaning l.parser).rest l.state) (i.view input) (i.failures input) (λ v o x. x)) refl (λ x. x)
 
@@ -131,18 +131,18 @@ module _ {N Input V U Checkpoint T R P E : Type 0} (p : parser.Ghosts N Input U 
           committed = λ x b o e c k. absurd (omega arith);
         }
 
-    -- a call that makes one, with the stream left in place by the maker
+    -- and one that makes it, where the maker left the stream in place
     pub begins_in_place : (old : View P T) (before : Failures) → i.view input ≡ old → i.failures input ≡ before → Lasts makes → IsMeaning fresh p.valid (p.meaning l.parser) → fresh l.state → makes old l.parser → Answers all_world all (call_from Unmade state old (i.view left) before (i.failures left)) y
     begins_in_place old before e f lasts h k m = subst (λ v. Answers all_world all (call_from Unmade state v (i.view left) before (i.failures left)) y) e (subst (λ b. Answers all_world all (call_from Unmade state (i.view input) (i.view left) b (i.failures left)) y) f (begins_made lasts h k (subst (λ v. makes v l.parser) (sym e) m)))
 
-    -- the error of its refusal
+    -- and the error of its refusal
     pub reasons_made : IsMeaning fresh p.valid (p.meaning l.parser) → fresh l.state → makes (i.view input) l.parser → ReasonedCall observers all false Unmade (i.view input) (i.view left) y
     reasons_made h f m = reasoned_into (λ k e x. record { parser = l.parser; made = m; said = (refusals_begin h l.state f (i.view input) (i.view left) k e).0 x }) (reasoned_meant g.answers g.refuses)
 
     pub reasons_in_place : (old : View P T) → i.view input ≡ old → IsMeaning fresh p.valid (p.meaning l.parser) → fresh l.state → makes old l.parser → ReasonedCall observers all false Unmade old (i.view left) y
     reasons_in_place old e h f m = subst (λ v. ReasonedCall observers all false Unmade v (i.view left) y) e (reasons_made h f (subst (λ v. makes v l.parser) (sym e) m))
 
--- the same results as those of the parser that was made, from its start, with the stream left in place by the maker
+-- the same as an answer of the parser that was made, from its start, where the maker left the stream in place
 module _ {N Input V U Checkpoint T R P E : Type 0} (p : parser.Ghosts N Input U V Checkpoint T R P E) (i : stream.Ghosts Input T R P E) (observers : Observers T R P E) (fresh : U → Type 0) {old asked left : Input} {n : N} {u : U} {state : MadeState N U} {y : ParseResult V E} (g : CalledMade p i observers fresh asked left (record { parser = n; state = u }) state y) (e : i.view asked ≡ i.view old) where
   abbrev around : World P T U E
   around = world i.step observers i.counts_failures fresh

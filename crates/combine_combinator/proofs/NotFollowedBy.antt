@@ -1,4 +1,4 @@
--- where `not_followed_by` is accepted
+-- where what is not followed by a parser is accepted
 use Rattle.std.proofs.Common.{◌≡◌, ◌↔◌, Bool, false, refl}
 use Rattle.combine_base.specs.Stream.View.{View}
 use Rattle.combine_base.specs.Parser.Outcome.{Outcome, Accepted, Refused, Undecided}

@@ -1,4 +1,4 @@
--- if a maker returns one parser, which has one outcome, there is one outcome
+-- where a maker answers one parser, which has one outcome, there is one outcome
 use Rattle.std.proofs.Common.{◌≡◌, subst}
 use Rattle.combine_base.specs.Parser.Meaning.{IsSingle, Reading}
 use Rattle.combine_combinator.specs.MadeParsers.{MakesWhere, MakesOne}

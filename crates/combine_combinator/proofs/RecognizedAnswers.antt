@@ -1,4 +1,4 @@
--- the results of `recognize`, by those of its part
+-- the answers of `recognize`, by those of its part
 use Rattle.std.proofs.Common.{ℕ, ◌<◌, ◌≤◌, ◌≡◌, List, ◌++◌, Bool, true, false, take, drop, arith, ap, sym, subst, refl, ◌∙◌, Ok, Err}
 use Rattle.combine_base.specs.Stream.View.{View, MayFollow, extended}
 use Rattle.combine_base.specs.Parser.Outcome.{Outcome, Accepted, Refused, Undecided, after, IsCommitted}
@@ -45,11 +45,11 @@ module _ {P T R A S E F Held : Type 0} (w : World P T S E) (held : F → Held) (
   abbrev all_world : World P T (RecognizeState F S) E
   all_world = around w (IsFreshCollecting w.fresh)
 
-  -- the tokens held when the call begins
+  -- what is held when the call begins
   abbrev earlier : Held
   earlier = collected_by held none s.collected
 
-  -- the call of the part, and the call around it, which ends there
+  -- the call of the part, and the one around, which ends there
   abbrev call : CallRecord P T S
   call = call_from s.part stopped old mid before between
 
@@ -104,7 +104,7 @@ module _ {P T R A S E F Held : Type 0} (w : World P T S E) (held : F → Held) (
           };
         }
 
-    -- they couldn't be collected
+    -- they could not be collected
     pub recognize_hindered : IsFreshCollecting w.fresh left → before.reads ≤ between.reads → before.resets ≤ between.resets → (n : ℕ) (k : Kind) → CollectsTokens w.counts_failures w.step held more heapless into old new between later n (Err k) → (e : E) → w.kind e ≡ k → Answers all_world all (call_around new later) (CommitErr e)
     recognize_hindered fresh i j n k c e q = record { is = rw q (by_kind k c.is.0) }
       where
@@ -119,7 +119,7 @@ module _ {P T R A S E F Held : Type 0} (w : World P T S E) (held : F → Held) (
         by_kind kinds.End h = absurd h
         by_kind kinds.Lost h = absurd h
 
-    -- need of more: the collected tokens are kept, and the part's state
+    -- need of more: what is collected is kept, and the part's state
     module _ (f : F) (keeps : left ≡ record { collected = Tokens f; part = stopped }) (x : Asks w m call) (c : CollectsTokens w.counts_failures w.step held more heapless into old new between later x.count (Ok f)) where
       same_place : new ≡ mid
       same_place = c.is.1.rest ∙ sym x.taken.rest
@@ -163,11 +163,11 @@ module _ {P T R A S E F Held : Type 0} (w : World P T S E) (held : F → Held) (
         failures = λ y. c.is.2 y ∙ x.failures y;
       }
 
-  -- an error that is need of more, with the tokens collected by then
+  -- an error that is need of more, with what is collected then
   pub recognize_asks : (into : F) → held into ≡ earlier → (new : View P T) (later : Failures) (f : F) → left ≡ record { collected = Tokens f; part = stopped } → (e : E) → (w.kind e ≡ kinds.End) × (mid.is_open ≡ true) → Answers w m call (CommitErr e) → ((x : Asks w m call) → CollectsTokens w.counts_failures w.step held more heapless into old new between later x.count (Ok f)) → Answers all_world all (call_around new later) (CommitErr e)
   recognize_asks into empty new later f keeps e i p c = needs w (IsFreshCollecting w.fresh) m all call (call_around new later) e i p refl (λ x. recognize_waits into empty new later f keeps x (c x))
 
-  -- need of more is no refusal
+  -- which is no refusal
   pub asked_reasons : (into : F) (new : View P T) (later : Failures) (f : F) (says : Bool → E → Type 0) (e : E) → (w.kind e ≡ kinds.End) × (mid.is_open ≡ true) → Answers w m call (CommitErr e) → ((x : Asks w m call) → CollectsTokens w.counts_failures w.step held more heapless into old new between later x.count (Ok f)) → Reasoned {V = F} w.kind new.is_open says (CommitErr e)
   asked_reasons into new later f says e i p c =
       let x = need_of_more w m call e i.0 (sym (same_mark w m call e p) ∙ i.1) p in

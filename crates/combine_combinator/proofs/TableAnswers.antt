@@ -1,4 +1,4 @@
--- the results of a parser whose outcome is a table's value at another parser's outcome
+-- the answers of a parser whose outcome is read off that of another by a table
 use Rattle.std.proofs.Common.{ℕ, ◌+◌, ◌≤◌, ◌≡◌, ◌⊎◌, inl, inr, List, Bool, true, false, refl, sym, ap, ◌∙◌, subst, arith}
 use Rattle.combine_base.specs.Stream.View.{View, Takes}
 use Rattle.combine_base.specs.Error.Items.{ErrorItem}
@@ -107,7 +107,7 @@ module _ {P T R A B S Z E : Type 0} (w : World P T S E) (fresh : Z → Type 0) (
     failures = λ x. h.1 x ∙ y.failures x;
   })
 
-  -- the stream couldn't be put back
+  -- the stream could not be put back
   pub table_answers : (n : ℕ) → Takes w.step n old mid → f0.resets ≤ f1.resets → (marked : View P T → Type 0) → marked old → (answer result : ParseResult B E) → PutBackFor w.counts_failures w.step w.kind marked mid new f1 f2 answer result → (put_back → Answers (around w fresh) whole outer answer) → Answers (around w fresh) whole outer result
   table_answers n t x marked i answer result p g = by_case p.is
     where
@@ -130,7 +130,7 @@ module _ {P T R A B S Z E : Type 0} (w : World P T S E) (fresh : Z → Type 0) (
   abbrev table : Meaning P T R E B Z
   table = by_table f m adds refuses
 
-  -- accepted, with the stream left where the part left it
+  -- accepted, and left so
   pub table_takes : (a : A) (k : Bool) (b : B) → ((n : ℕ) → f (Accepted a n k) ≡ Accepted b n k) → Accepts w m called a k → Accepts (around w fresh) table as_is b k
   table_takes a k b t y = record {
     count = y.count;
@@ -146,7 +146,7 @@ module _ {P T R A B S Z E : Type 0} (w : World P T S E) (fresh : Z → Type 0) (
   refused_too : (k : Bool) → f (Refused k) ≡ Refused k → Refuses w m called k → Refuses (around w fresh) table as_is k
   refused_too k t y = record { meant = subst (begun table first z old) t (read w fresh m f adds refuses s left first z z' d old mid mid f0 f1 f1 first (Refused k) y.meant); leaves = left_by y.leaves; failures = y.failures }
 
-  -- an error that isn't need of more is unchanged, if refusals are
+  -- what isn't need of more stays, where refusals do
   pub table_fails : (e : E) → f (Refused true) ≡ Refused true → ((w.kind e ≡ kinds.End) × (mid.is_open ≡ true) → ⊥) → Answers w m called (CommitErr e) → Answers (around w fresh) table as_is (CommitErr e)
   table_fails e t q p = settles w fresh m table called as_is e q p (record {
     is_open = refl;
@@ -169,7 +169,7 @@ module _ {P T R A B S Z E : Type 0} (w : World P T S E) (fresh : Z → Type 0) (
       by_kind kinds.Reset y = y
       by_kind kinds.Lost y = y
 
-  -- a fault is unchanged
+  -- a fault stays what it is
   pub table_faults : (e : E) → refusing (w.kind e) ≡ false → Answers w m called (CommitErr e) → Answers (around w fresh) table as_is (CommitErr e)
   table_faults e i p = record { is = by_kind (w.kind e) i p.is }
     where
@@ -186,7 +186,7 @@ pub table_reasons : {P T R A B S Z V E : Type 0} (m : Meaning P T R E A S) (f : 
 table_reasons m f adds refuses true z old new h = h
 table_reasons m f adds refuses false z old new h = h
 
--- the error of a result given with the stream put back, or with a stream that couldn't be
+-- the error of what was answered with the stream put back, or could not be
 module _ {P T V E : Type 0} {counts_failures : Type 0} {step : P → T → P} {kind : E → Kind} {marked : View P T → Type 0} {old new : View P T} {before after : Failures} {answer result : ParseResult V E} (says : Bool → E → Type 0) where
   pub back_reasons : (v : View P T) → marked v → PutBackFor counts_failures step kind marked old new before after answer result → (new ≡ v → Reasoned kind new.is_open says answer) → Reasoned kind new.is_open says result
   back_reasons v i h r = by_case h.is

@@ -1,4 +1,4 @@
--- tokens collected one after another: each turn of the loop, and each way out of it
+-- tokens collected one after another: each turn goes on, and each way out is as promised
 use Rattle.std.proofs.Common.{ℕ, ◌+◌, ◌<◌, ◌≤◌, ◌≡◌, List, [], ◌∷◌, ◌++◌, length, take, drop, arith, ap, sym, subst, refl, ◌∙◌, Result, Ok, Err}
 use Rattle.std.proofs.Math.Seq.{take-add}
 use Rattle.std.proofs.lemmas.List.{take-append-le, drop-append-le}
@@ -24,7 +24,7 @@ module _ {T Held : Type 0} (more : Held → T → Held) where
       let b = more_after h (take n us) (take 1 (drop n us)) in
       rw (a, b, e) refl
 
-  -- the tokens before a cut, and those after it
+  -- the tokens before a cut, and those behind it
   pub collected_on : (h : Held) (n i : ℕ) (us vs x : List T) → n ≤ length us → vs ≡ drop n us → all_more more (all_more more h (take n us)) (take i (vs ++ x)) ≡ all_more more h (take (n + i) (us ++ x))
   collected_on h n i us vs x l e =
       let a = take-add n i (us ++ x) in
@@ -34,7 +34,7 @@ module _ {T Held : Type 0} (more : Held → T → Held) where
       sym d ∙ ap (all_more more h) (ap (λ y. take n us ++ take i y) (ap (λ y. y ++ x) e ∙ sym c) ∙ ap (λ y. y ++ take i (drop n (us ++ x))) (sym b) ∙ sym a)
 
 module _ {P T F Held : Type 0} (counts_failures : Type 0) (step : P → T → P) (held : F → Held) (more : Held → T → Held) (heapless : Type 0) (into : F) where
-  -- a read returned no token, though some are left before the end
+  -- a read gave no token, though there are some before the end
   pub collect_stopped : (old now new : View P T) (b f g : Failures) (i : ℕ) → Takes step i old now → b.reads ≤ f.reads → (n : ℕ) → i < n → n ≤ length old.unread → (k : Kind) → no_token counts_failures step now new f g k → CollectsTokens counts_failures step held more heapless into old new b g n (Err k)
   collect_stopped old now new b f g i s h n l m k e = record { is = by_kind k (over_stopped step counts_failures old now new b f g i s h n l k e).is }
     where
@@ -46,11 +46,11 @@ module _ {P T F Held : Type 0} (counts_failures : Type 0) (step : P → T → P)
       by_kind kinds.Reset z = absurd z.0
       by_kind kinds.Lost z = absurd z.0
 
-  -- the collection couldn't grow
+  -- it could not grow
   pub collect_starved : (old now new : View P T) (b g : Failures) (i n : ℕ) → Takes step i old now → Moves step now new → (heapless → ⊥) → CollectsTokens counts_failures step held more heapless into old new b g n (Err kinds.Memory)
   collect_starved old now new b g i n s t l = record { is = (l, moves_more step i old now new s t) }
 
-  -- the stream couldn't be put back to v
+  -- the stream could not be put back to v
   pub collect_unreset : (v old new : View P T) (f g : Failures) (n : ℕ) → Takes step n v old → (k : Kind) → (k ≡ kinds.Reset) × Moves step old new × (f.resets < g.resets) → CollectsTokens counts_failures step held more heapless into v new f g n (Err k)
   collect_unreset v old new f g n t k r = record { is = (rw r.0 r.2, moves_more step n v old new t r.1) }
 

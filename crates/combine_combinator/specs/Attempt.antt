@@ -1,4 +1,4 @@
--- a parser whose refusals are all peeked, with the distance read, in tokens, and the part's state as its state; and how a call of it puts the stream back
+-- a parser whose refusals are all peeked; its state is the distance read, in tokens, and the part's state; and how a call of it puts the stream back
 use Rattle.std.specs.Prelude.{ℕ, ◌+◌, ◌<◌, ◌≤◌, ◌≡◌, Bool, true, false, ◌||◌, nat_lt, List, length, refl, ◌↔◌, Result, Ok, Err}
 use Rattle.std.proofs.Common.{arith, ap, sym, subst, ◌∙◌, length-append, length-drop, ltb-false}
 use Rattle.combine_base.specs.Stream.View.{View, advanced, extended, Takes}
@@ -15,13 +15,13 @@ use Rattle.combine_base.specs.declared.error.result.ParseResult.TheVariants.{Com
 use Rattle.combine_base.specs.declared.error.tracked.Tracked.{Tracked}
 use Rattle.combine_base.specs.declared.stream.Failures.{Failures}
 
--- the outcome, with a refusal made peeked
+-- the outcome, its refusal peeked
 abbrev pub with_peeked_refusal : {V : Type 0} → Outcome V → Outcome V
 with_peeked_refusal (Accepted v n k) = Accepted v n k
 with_peeked_refusal (Refused k) = Refused false
 with_peeked_refusal Undecided = Undecided
 
--- a kind of refusal, unless it is need of more
+-- a refusal, where it isn't need of more
 abbrev pub refusing : Kind → Bool
 refusing kinds.Refused = true
 refusing kinds.End = true
@@ -39,7 +39,7 @@ abbrev pub HasValidTry : {S : Type 0} → (S → Type 0) → TryState S → Type
 HasValidTry valid s = valid s.part
 
 module _ {P T E : Type 0} (step : P → T → P) where
-  -- every refusal is peeked, with the view put back; the part was refused d tokens later, committed or peeked
+  -- every refusal is peeked, and the view is put back; the part refused so d tokens later, committed or peeked
   pub record RefusesTryPeeked (d : ℕ) (part : Refusing P T E) (v w : View P T) (committed : Bool) (e : E) : Type 0 where
     pub peeked : committed ≡ false
     pub back : w ≡ v
@@ -54,7 +54,7 @@ module _ {P T E : Type 0} (step : P → T → P) where
   peeked_same d part part' h v w k e = (peeked_into d part part' (λ v w k e. (h v w k e).0) v w k e, peeked_into d part' part (λ v w k e. (h v w k e).1) v w k e)
 
 module _ {P T : Type 0} (step : P → T → P) where
-  -- the kept distance, or the part's own, is longer than the input
+  -- the kept distance is longer than the input, or the part's own is
   pub data LosesTry (d : ℕ) (lost : View P T → Type 0) (v : View P T) : Type 0 where
     Short : (short : length v.unread < d) → LosesTry d lost v
     LostWithin : (within : lost (advanced step d v)) → LosesTry d lost v
@@ -68,7 +68,7 @@ module _ {P T : Type 0} (step : P → T → P) where
   never_lost d l i v e (LostWithin p) = i _ p
 
 module _ {P T V : Type 0} (step : P → T → P) where
-  -- d tokens are passed over first; if there are fewer there is no outcome
+  -- d tokens are passed over first; where there are fewer there is no outcome
   pub record Attempts (d : ℕ) (r : Reading P T V) (v : View P T) (o : Outcome V) : Type 0 where
     pub enough : d ≤ length v.unread
     pub inner : Outcome V
@@ -189,7 +189,7 @@ module _ {P T E : Type 0} (counts_failures : Type 0) (step : P → T → P) (mar
     puts_back (PeekErr t) = (t ≡ refusal) × ResetTo counts_failures step marked old new before after (Ok tt) × (left ≡ state)
     puts_back (CommitErr e) = ResetTo counts_failures step marked old new before after (Err (kind e)) × fresh left
 
-    -- the refusal, peeked, with the stream put back; or a fault, if that failed
+    -- the refusal, peeked, with the stream put back; or a fault, if it could not be
     pub record PutsBack (result : ParseResult V E) : Type 0 where
       pub is : puts_back result
 
@@ -198,7 +198,7 @@ module _ {P T E : Type 0} (counts_failures : Type 0) (step : P → T → P) (mar
     keeps_token_distance (Ok d) = (result ≡ CommitErr need) × (left ≡ record { distance = d; part = state.part })
     keeps_token_distance (Err k) = ((e : E) × (result ≡ CommitErr e) × (kind e ≡ k)) × (left.distance ≡ state.distance) × fresh left.part
 
-    -- the stream was put back, and the state keeps the distance from there; or a fault, if it couldn't be measured
+    -- the stream was put back, and the state keeps the distance from there; or a fault, if it could not be measured
     pub record KeepsTokenDistance : Type 0 where
       pub distance : Result ℕ Kind
       pub measures : (n : ℕ) (v : View P T) → marked v → Takes step n v old → MeasuresDistance counts_failures step old new before after v n distance

@@ -1,4 +1,4 @@
--- the laws of `attempt`, `map` and `not_followed_by`
+-- what the laws of `attempt`, `map` and `not_followed_by` say
 use Rattle.std.specs.Prelude.{◌↔◌, Bool, false}
 use Rattle.combine_base.specs.Stream.View.{View}
 use Rattle.combine_base.specs.Parser.Outcome.{Outcome, Accepted, Refused}
@@ -8,11 +8,11 @@ use Rattle.combine_base.specs.Parser.Meaning.{Meaning}
 abbrev pub SameFromTheStart : {P T R E V S S' : Type 0} → Meaning P T R E V S → Meaning P T R E V S' → Type 0
 SameFromTheStart {P} {T} {R} {V} m m' = (v : View P T) (o : Outcome V) → m.whole v o ↔ m'.whole v o
 
--- one function after another, each known by its relation
+-- one function and then another, each known by its relation
 abbrev pub composed_relation : {A B C : Type 0} → (A → B → Type 0) → (B → C → Type 0) → A → C → Type 0
 composed_relation {A} {B} f g a c = (b : B) × f a b × g b c
 
--- a function is the composition of two others
+-- a function gives what the second gives of what the first does
 abbrev pub IsComposition : {A B C : Type 0} → (A → B → Type 0) → (B → C → Type 0) → (A → C → Type 0) → Type 0
 IsComposition {A} {B} {C} f g h = (a : A) (c : C) → h a c ↔ composed_relation f g a c
 

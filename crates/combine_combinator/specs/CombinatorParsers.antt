@@ -1,4 +1,4 @@
--- the parsers of this crate, by their parts
+-- the parsers of this crate, of their parts
 use Rattle.combine_combinator.specs.declared.combinator.look.LookAhead.{LookAhead}
 use Rattle.combine_combinator.specs.declared.combinator.look.NoPartial.{NoPartial}
 use Rattle.combine_combinator.specs.declared.combinator.look.NotFollowedBy.{NotFollowedBy}
@@ -23,7 +23,7 @@ attempt_of p = record { 0 = p }
 abbrev pub attempt_part : {P : Type 0} → Try P → P
 attempt_part t = t.0
 
--- the parser of this part, of whose value W picks a part
+-- the parser of this part, of whose value W says what is kept
 abbrev pub picked_of : {P W B : Type 0} → P → Picked P W B
 picked_of p = record { part = p; pick = record {}; gives = record {} }
 

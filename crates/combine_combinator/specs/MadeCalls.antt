@@ -1,4 +1,4 @@
--- contracts of a run of a parser that was made
+-- what a run of a parser that was made promises
 use Rattle.std.specs.Prelude.{◌≡◌, ◌⊎◌}
 use Rattle.combine_base.specs.Error.Errors.{Observers}
 use Rattle.combine_base.specs.Parser.Answer.{Answers, world}
@@ -15,7 +15,7 @@ use Rattle.combine_combinator.specs.declared.lazy.made.Made.{Made}
 use Rattle.combine_combinator.specs.declared.lazy.made.MadeState.{MadeState}
 use Rattle.combine_combinator.specs.declared.lazy.made.MadeState.TheVariants.{Unmade, Kept}
 
--- A parser that was made was run from its state. The call may change it, but not its meaning; need of more keeps the changed parser.
+-- A parser that was made was run from its state. Its call may change it, not what it means; need of more keeps it as it then is.
 module _ {N Input V U Checkpoint T R P E : Type 0} (p : parser.Ghosts N Input U V Checkpoint T R P E) (i : stream.Ghosts Input T R P E) (observers : Observers T R P E) (fresh : U → Type 0) where
   pub record CalledMade (input left : Input) (from : Made N U) (state : MadeState N U) (result : ParseResult V E) : Type 0 where
     pub parser : N
@@ -28,7 +28,7 @@ module _ {N Input V U Checkpoint T R P E : Type 0} (p : parser.Ghosts N Input U 
     pub refuses : Reasoned observers.kind (i.view left).is_open ((p.meaning from.parser).refuses_from from.state (i.view input) (i.view left)) result
 
   module _ (returns : Input → N → Input → Type 0) where
-    -- The maker was called for this very stream, which it left in place, and the parser that it returned was run from a default state.
+    -- The maker was asked for this very stream, which it left in place, and the parser that it answered was run from a default state.
     pub record RunsMade (input left : Input) (state : MadeState N U) (result : ParseResult V E) : Type 0 where
       pub asked : Input
       pub parser : N
@@ -40,7 +40,7 @@ module _ {N Input V U Checkpoint T R P E : Type 0} (p : parser.Ghosts N Input U 
       pub is_default : fresh begins
       pub called : CalledMade asked left (record { parser = parser; state = begins }) state result
 
-    -- The result is one of the parser that the maker returned for this very stream, from the start.
+    -- The answer is one from the start of the parser that the maker answered for this very stream.
     pub record ParsesMade (input left : Input) (result : ParseResult V E) : Type 0 where
       pub asked : Input
       pub parser : N

@@ -1,4 +1,4 @@
--- parsers that a maker returns when a call begins; the state is the running parser and its state
+-- parsers that a maker answers where a call begins; the state is the one that runs, and its state
 use Rattle.std.specs.Prelude.{◌≡◌, List, [], ◌++◌, Bool, true, false, refl, ◌↔◌}
 use Rattle.std.proofs.Common.{ap, sym, ◌∙◌, append_assoc}
 use Rattle.combine_base.specs.Stream.View.{View, MayFollow, extended}
@@ -14,7 +14,7 @@ use Rattle.combine_combinator.specs.declared.lazy.made.MadeState.TheVariants.{Un
 use Rattle.combine_combinator.specs.declared.lazy.types.Factory.{Factory}
 use Rattle.combine_combinator.specs.declared.lazy.types.Lazy.{Lazy}
 
--- the parsers of this crate, by their makers
+-- the parsers of this crate, of their makers
 abbrev pub lazy_of : {F : Type 0} → F → Lazy F
 lazy_of f = record { 0 = f }
 
@@ -47,15 +47,15 @@ pub record MadeBySome {F N : Type 0} (callable : F → Type 0) (makes : F → N 
   pub all : (n : N) → makes maker n → lawful n
   pub made : makes maker n
 
--- which parsers may be made on a view
+-- which parsers may be made where the stream is so
 abbrev pub MakesWhere : Type 0 → Type 0 → Type 0 → Type 1
 MakesWhere P T N = View P T → N → Type 0
 
--- a parser that may be made on a view may also be made on each that extends it
+-- what may be made stays so on a list that goes on
 abbrev pub Lasts : {P T N : Type 0} → MakesWhere P T N → Type 0
 Lasts {P} {T} {N} makes = (v : View P T) (x : List T) (b : Bool) (n : N) → MayFollow v.is_open x b → makes v n → makes (extended x b v) n
 
--- a maker that doesn't get the stream
+-- a maker that isn't given the stream
 abbrev pub at_any : {P T N : Type 0} → (N → Type 0) → MakesWhere P T N
 at_any answers v n = answers n
 
@@ -68,12 +68,12 @@ module _ {I P T N C V : Type 0} (view : I → View P T) (marks : I → C → V �
     pub kept : (i : I) (n : N) (l : I) → returns i n l → (view l ≡ view i) × Passes (marks i) (marks l) (failures i) (failures l) × (failures l ≡ failures i)
 
 module _ {I P T N C V F : Type 0} (view : I → View P T) (marks : I → C → V → Type 0) (failures : I → Failures) (callable : F → Unit {0} → I → Type 0) (returns : F → Unit {0} → I → N → I → Type 0) where
-  -- made for some stream by a function of this type that leaves every stream in place
+  -- made for some stream by a function of this type that leaves each in place
   abbrev pub by_factory : (N → Type 0) → N → Type 0
   by_factory lawful = MadeBySome (λ f. ((i : I) → callable f tt i) × MakerLeavesStream view marks failures (returns f tt)) (λ f n. (i : I) × (l : I) × returns f tt i n l) lawful
 
 module _ {I P T N : Type 0} (view : I → View P T) (returns : I → N → I → Type 0) where
-  -- returned for a stream with this view, or with an open beginning of it
+  -- answered for a stream that stands so, or for one that goes on so
   pub record MadeAt (v : View P T) (n : N) : Type 0 where
     pub input : I
     pub left : I
@@ -102,22 +102,22 @@ module _ {I P T N : Type 0} (view : I → View P T) (returns : I → N → I →
     is = ap (extended x b) m.is ∙ ap (λ us. record { position = (view m.input).position; unread = us; is_open = b }) (append_assoc (view m.input).unread m.more x);
   }
 
--- parsers that may be made on one view have one outcome there by shape
+-- parsers that may be made at one place have one outcome there, but for the value
 pub record MakesOne {P T V N : Type 0} (makes : MakesWhere P T N) (means : N → Reading P T V) : Type 0 where
   pub one : (v : View P T) (n n' : N) → makes v n → makes v n' → (o o' : Outcome V) → means n v o → means n' v o' → shape o ≡ shape o'
 
--- the items of a parser that may be returned
+-- the items of a parser that may be answered
 abbrev pub Adds : {P T R E V N U : Type 0} → (N → Type 0) → (N → Meaning P T R E V U) → List (ErrorItem T R) → Type 0
 Adds {N = N} answers means is = (n : N) × answers n × (means n).adds is
 
 module _ {P T R E V N U : Type 0} (makes : MakesWhere P T N) (means : N → Meaning P T R E V U) where
-  -- the refusals from the start of a parser that may be made there
+  -- a parser that may be made there refuses so, from its start
   pub record RefusesAfresh (v w : View P T) (committed : Bool) (e : E) : Type 0 where
     pub parser : N
     pub made : makes v parser
     pub said : refusals (means parser) v w committed e
 
-  -- the refusals from a state: of a kept parser, from its state
+  -- and a kept one from its state
   abbrev pub made_refuses : MadeState N U → Refusing P T E
   made_refuses Unmade v w committed e = RefusesAfresh v w committed e
   made_refuses (Kept k) v w committed e = (means k.parser).refuses_from k.state v w committed e
@@ -135,7 +135,7 @@ module _ {P T R E V N U : Type 0} (makes : MakesWhere P T N) (makable : N → Ty
   made_lost Unmade v = ⊥
   made_lost (Kept k) v = (means k.parser).lost k.state v
 
-  -- a kept parser has the meaning of one that is makable
+  -- a kept parser means what one that is makable does
   abbrev pub made_meaning : Meaning P T R E V (MadeState N U)
   made_meaning = record {
     whole = made_whole;

@@ -1,4 +1,4 @@
--- the tokens that a parser takes, collected; the state is the tokens taken before a cut and the part's state
+-- the tokens that a parser takes, collected; the state is the tokens taken before a cut, and the part's state
 use Rattle.std.specs.Prelude.{ℕ, ◌<◌, ◌≡◌, List, [], ◌∷◌, Bool, true, take, Result, Ok, Err, refl, ◌↔◌}
 use Rattle.std.proofs.Common.{ap, sym, ◌∙◌}
 use Rattle.std.proofs.lemmas.List.{take-append-le}
@@ -28,18 +28,18 @@ IsFreshCollecting fresh s = (s.collected ≡ Nothing) × fresh s.part
 abbrev pub HasValidCollecting : {F S : Type 0} → (S → Type 0) → RecognizeState F S → Type 0
 HasValidCollecting valid s = valid s.part
 
--- the collection after these tokens, one after another
+-- what is held after these tokens, one after another
 abbrev pub all_more : {T Held : Type 0} → (Held → T → Held) → Held → List T → Held
 all_more more h [] = h
 all_more more h (t ∷ ts) = all_more more (more h t) ts
 
--- the collection of the tokens taken before
+-- what is held of the tokens taken before
 abbrev pub collected_by : {F Held : Type 0} → (F → Held) → Held → Collected F → Held
 collected_by held none Nothing = none
 collected_by held none (Tokens f) = held f
 
 module _ {P T F Held : Type 0} (counts_failures : Type 0) (step : P → T → P) (held : F → Held) (more : Held → T → Held) (heapless : Type 0) (into : F) (start new : View P T) (before after : Failures) where
-  -- why tokens weren't collected: a read or a reset failed, or the collection needed memory
+  -- why tokens were not collected: a read or a reset failed, or a collection asked for memory
   abbrev pub hinders : Kind → Type 0
   hinders kinds.Read = before.reads < after.reads
   hinders kinds.Reset = before.resets < after.resets
@@ -57,7 +57,7 @@ module _ {P T F Held : Type 0} (counts_failures : Type 0) (step : P → T → P)
     pub is : collects_tokens n result
 
 module _ {P T A F Held : Type 0} (held : F → Held) (none : Held) (more : Held → T → Held) where
-  -- the tokens taken, appended to the collection, in place of the value
+  -- the tokens taken, appended to what is held, in place of the value
   abbrev pub recognizes : Held → Reading P T A → Reading P T F
   recognizes h r v (Accepted f n k) = (a : A) × r v (Accepted a n k) × (held f ≡ all_more more h (take n v.unread))
   recognizes h r v (Refused k) = r v (Refused k)
@@ -89,7 +89,7 @@ module _ {P T A F Held : Type 0} (held : F → Held) (none : Held) (more : Held 
     within = λ v f n k p. i.within v p.0 n k p.1;
   }
 
-  -- an outcome comes from one of the part, of the same shape
+  -- an outcome stands on one of the part, of the same shape
   abbrev under : (h : Held) (r : Reading P T A) (v : View P T) (o : Outcome F) → recognizes h r v o → (i : Outcome A) × r v i × shape i ≡ shape o
   under h r v (Accepted f n k) p = (Accepted p.0 n k, p.1, refl)
   under h r v (Refused k) p = (Refused k, p, refl)

@@ -1,4 +1,4 @@
--- parsers whose outcome is a table's value at another parser's outcome, and whose calls each begin again
+-- parsers whose outcome is read off that of another parser by a table, and whose calls each begin again
 use Rattle.std.specs.Prelude.{ℕ, ◌≡◌, ◌⊎◌, ◌≤◌, ◌↔◌, Bool, false, List, length, refl}
 use Rattle.std.proofs.Common.{arith, ap, sym, subst, ◌∙◌, inl, inr}
 use Rattle.combine_base.specs.Stream.View.{View}
@@ -6,13 +6,13 @@ use Rattle.combine_base.specs.Error.Items.{ErrorItem}
 use Rattle.combine_base.specs.Parser.Outcome.{Outcome, Accepted, Refused, Undecided, shape, IsDecided}
 use Rattle.combine_base.specs.Parser.Meaning.{Meaning, Reading, Refusing, IsReading, IsSingle, IsMeaning, MeansOne, MeansSame, SameReasons}
 
--- an acceptance becomes peeked and takes nothing; a refusal stays
+-- accepted peeked, nothing taken; what is refused is refused alike
 abbrev pub looks : {Value : Type 0} → Outcome Value → Outcome Value
 looks (Accepted v n k) = Accepted v 0 false
 looks (Refused k) = Refused k
 looks Undecided = Undecided
 
--- a refusal becomes an acceptance, and an acceptance a refusal, each peeked
+-- what is refused is accepted, and what is accepted is refused, each peeked
 abbrev pub is_not : {Value : Type 0} → Outcome Value → Outcome (Unit {0})
 is_not (Accepted v n k) = Refused false
 is_not (Refused k) = Accepted tt 0 false
@@ -22,7 +22,7 @@ is_not Undecided = Undecided
 abbrev pub same_outcome : {Value : Type 0} → Outcome Value → Outcome Value
 same_outcome o = o
 
--- the laws of a table: only undecided is made undecided, an acceptance takes nothing or is one of as many tokens and the same commitment, and outcomes of one shape go to one shape
+-- what a table keeps: what is undecided is undecided alone, an acceptance takes nothing or is one of as many tokens and the same kind, and outcomes of one shape go to one shape
 pub record IsTable {A B : Type 0} (f : Outcome A → Outcome B) : Type 0 where
   pub undecided : (o : Outcome A) → Undecided ≡ f o → o ≡ Undecided
   pub decided : (o : Outcome A) → IsDecided (f o) → IsDecided o

@@ -1,4 +1,4 @@
-//! Collecting the tokens that a parser took, by reading them again.
+//! Tokens that were taken, read again and collected.
 ghost use Rattle.std.specs.Prelude.{◌≤◌, length};
 ghost use Rattle.combine_base.specs.Stream.Calls.{Passes};
 ghost use Rattle.combine_base.specs.Stream.View.{Takes};
@@ -7,11 +7,11 @@ ghost use Rattle.combine_combinator.specs.RecognizedTokens.{CollectsTokens};
 use combine_base::repeat::Append;
 use combine_base::stream::{Kind, ResetStream, StreamOnce};
 
-/// Takes `count` tokens and appends them.
+/// Takes that many tokens, and appends them.
 ///
 /// # Errors
 ///
-/// `Read` if a read fails, and `Memory` if the collection can't grow. Some of the tokens are then taken.
+/// `Read` if a read fails, and `Memory` if the collection can't grow. Some tokens are then taken.
 #[inline]
 fn collect<Input: StreamOnce, F: Append<Input::Token>>(
     input: &mut Input,
@@ -22,7 +22,6 @@ fn collect<Input: StreamOnce, F: Append<Input::Token>>(
     ensures collects { count ≤ length (Input.view input.old).unread → CollectsTokens Input.counts_failures Input.step F.held F.more F.heapless into (Input.view input.old) (Input.view input.new) (Input.failures input.old) (Input.failures input.new) count result }
 {
     let mut into = into;
-    // The label names the loop's invariant.
     'tokens: for taken in 0..count {
         let token = input.uncons()?;
         if let Err(_refused) = into.append(token) {
@@ -32,7 +31,7 @@ fn collect<Input: StreamOnce, F: Append<Input::Token>>(
     Ok(into)
 }
 
-/// Puts the stream back to a checkpoint, and takes again and appends the tokens up to where the stream was.
+/// Puts the stream back to the checkpoint, and takes the tokens from there to where it was once more: they are appended.
 ///
 /// # Errors
 ///

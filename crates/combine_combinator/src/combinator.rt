@@ -1,4 +1,4 @@
-//! Parsers that change or drop another parser's value, put its refusals back, or look ahead.
+//! Parsers that change the value of another parser, or keep a part of it, put its refusals back, or look ahead.
 ghost use Rattle.std.specs.Prelude.{◌≡◌};
 ghost use Rattle.combine_combinator.specs.CombinatorParsers.{attempt_of, look_ahead_of, map_of, no_partial_of, not_followed_by_of, picked_of};
 
@@ -10,15 +10,15 @@ mod values;
 pub use types::TryState;
 use types::{Ignore, LookAhead, Map, NoPartial, NotFollowedBy, Try};
 
-/// Parses as `p`, and returns `f` of its value.
+/// Parses as `p`, and changes its value by `f`.
 ///
 /// `f: Fn(P::Output) -> B`, or a `Function`.
 ///
-/// The tokens taken, refusals, faults, need of more and state are those of `p`. `f` only has to be callable on the values of `p`.
+/// What is taken, refusals, faults and need of more are those of `p`, and so is the state. `f` need only be callable on the values that `p` gives.
 ///
 /// # Differences from combine
 ///
-/// `f` is an `Fn`; combine takes an `FnMut`.
+/// `f` is an `Fn`, where the crate takes an `FnMut`.
 ///
 /// # Examples
 ///
@@ -37,11 +37,11 @@ pub fn map<P, F, B>(p: P, f: F) -> Map<P, F, B>
     Map::new(p, f)
 }
 
-/// Parses as `p`, but every refusal is peeked and puts the stream back to where the parser began.
+/// Parses as `p`, but every refusal is peeked, with the stream put back to where the parser began.
 ///
 /// # Errors
 ///
-/// Faults stay committed. Besides those of `p` there are three:
+/// Faults stay committed. They are those of `p`, and three of the parser's own:
 ///
 /// - `Reset` if the stream can't be put back.
 /// - `Read` if the distance can't be read again.
@@ -49,11 +49,11 @@ pub fn map<P, F, B>(p: P, f: F) -> Map<P, F, B>
 ///
 /// # Partial input
 ///
-/// On need of more the stream is put back too, but `p` doesn't begin again. The state keeps the distance that was read, in tokens, and the state of `p`. The next call passes over that distance and goes on.
+/// On need of more the stream is put back too, but `p` does not begin again. The state keeps the distance that was read, in tokens, and the state of `p`. The next call passes over that distance and goes on.
 ///
 /// # Differences from combine
 ///
-/// combine keeps the tokens taken on need of more, and a later refusal is peeked with those tokens gone.
+/// The crate's keeps the tokens taken on need of more, and a later refusal is peeked with those tokens gone.
 ///
 /// # Examples
 ///
@@ -73,7 +73,7 @@ pub fn attempt<P>(p: P) -> Try<P>
 
 /// Parses as `p`, with the value `()`.
 ///
-/// The tokens taken, refusals, faults, need of more and state are those of `p`.
+/// What is taken, refusals, faults, need of more and the state are those of `p`.
 #[inline]
 pub fn ignore<P>(p: P) -> Ignore<P>
     ensures { result ≡ picked_of p }
@@ -81,13 +81,13 @@ pub fn ignore<P>(p: P) -> Ignore<P>
     Ignore::new(p)
 }
 
-/// Returns the value of `p`, and puts the stream back to where the parser began.
+/// Gives the value of `p`, and puts the stream back to where the parser began.
 ///
 /// The acceptance is peeked.
 ///
 /// # Errors
 ///
-/// Refusals are those of `p`. Faults are those of `p`, and `Reset` if the stream can't be put back.
+/// What `p` refuses is refused alike. Faults are those of `p`, and `Reset` if the stream can't be put back.
 ///
 /// # Partial input
 ///
@@ -95,7 +95,7 @@ pub fn ignore<P>(p: P) -> Ignore<P>
 ///
 /// # Differences from combine
 ///
-/// On need of more combine loses the tokens that `p` took.
+/// On need of more the crate's loses the tokens that `p` took.
 ///
 /// # Examples
 ///
@@ -113,21 +113,21 @@ pub fn look_ahead<P>(p: P) -> LookAhead<P>
     LookAhead(p)
 }
 
-/// Accepts peeked if `p` is refused, and refuses peeked if `p` is accepted.
+/// Accepts peeked where `p` is refused, and refuses peeked where `p` is accepted.
 ///
 /// The stream is put back to where the parser began.
 ///
 /// # Errors
 ///
-/// The error of its refusal has no items. A fault of `p` stays a fault; another is `Reset`, if the stream can't be put back.
+/// The error of its refusal says nothing. A fault of `p` stays one, and there is `Reset` if the stream can't be put back.
 ///
 /// # Partial input
 ///
-/// It needs more if `p` does. The stream is then put back, and the next call begins again.
+/// Where `p` needs more, so does it, with the stream put back, and the next call begins again.
 ///
 /// # Differences from combine
 ///
-/// combine accepts if `p` needs more. It also requires that the values of `p` can be shown in errors.
+/// If `p` needs more the crate's accepts. It asks that the values of `p` can be shown.
 ///
 /// # Examples
 ///
@@ -146,11 +146,11 @@ pub fn not_followed_by<P>(p: P) -> NotFollowedBy<P>
     NotFollowedBy(p)
 }
 
-/// Parses as `p`, without a kept state.
+/// Parses as `p`, but keeps no state.
 ///
 /// # Errors
 ///
-/// Those of `p`, and the fault `Reset` if the stream can't be put back.
+/// They are those of `p`, and the fault `Reset` if the stream can't be put back.
 ///
 /// # Partial input
 ///

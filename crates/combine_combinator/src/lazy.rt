@@ -1,4 +1,4 @@
-//! `lazy` and `factory`, whose parsers a maker returns.
+//! Parsers that a maker returns.
 ghost use Rattle.std.specs.Prelude.{◌≡◌};
 ghost use Rattle.combine_combinator.specs.MadeParsers.{factory_of, lazy_of};
 
@@ -7,23 +7,23 @@ pub mod types;
 
 use types::{Factory, Lazy};
 
-/// Parses as the parser that `maker` returns, which is called when a parse begins.
+/// Parses as the parser that `maker` returns, which is called where a parse begins.
 ///
 /// `maker: Fn() -> N, N: Parser<Input>`, or a `Maker`.
 ///
-/// Every parser that `maker` may return has to be lawful. If all of them have one outcome, so has `lazy`.
+/// Every parser that `maker` may return has to be lawful; where they have one outcome, there is one.
 ///
 /// # Errors
 ///
-/// The items added to an error are those of a parser of the maker, which is called once more for them.
+/// What is added to an error is what a parser of the maker adds, for which the maker is called once more.
 ///
 /// # Partial input
 ///
-/// The state keeps the parser and its state. After need of more the next call goes on with that parser, and the maker isn't called again.
+/// The state keeps the parser and its state. After need of more the next call goes on with that one, and the maker isn't asked again.
 ///
 /// # Differences from combine
 ///
-/// `maker` is an `Fn`; combine takes an `FnMut`, and calls it again on resumption.
+/// `maker` is an `Fn`, where the crate takes an `FnMut`, and asks it again on resumption.
 ///
 /// # Examples
 ///
@@ -41,7 +41,7 @@ pub fn lazy<F>(maker: F) -> Lazy<F>
     Lazy(maker)
 }
 
-/// Parses as the parser that `maker` returns for the stream when a parse begins.
+/// Parses as the parser that `maker` returns for the stream where a parse begins.
 ///
 /// `maker: Fn(&mut Input) -> N, N: Parser<Input>`, or a `MutFunction`.
 ///
@@ -49,16 +49,16 @@ pub fn lazy<F>(maker: F) -> Lazy<F>
 ///
 /// # Errors
 ///
-/// No items are added to an error.
+/// Nothing is added to an error.
 ///
 /// # Partial input
 ///
-/// The state keeps the parser that the maker returned, as with `lazy`.
+/// The state keeps the parser that the maker returned, as by `lazy`.
 ///
 /// # Differences from combine
 ///
-/// - `maker` is an `Fn`; combine takes an `FnMut`.
-/// - combine keeps the parser in itself, and adds the items of its last parser to an error.
+/// - `maker` is an `Fn`, where the crate takes an `FnMut`.
+/// - The crate keeps the parser in itself, and adds to an error what its last parser adds.
 ///
 /// # Examples
 ///

@@ -1,4 +1,4 @@
-//! The law of the parser that a `factory` runs.
+//! By which parser a `factory` parses.
 ghost use Rattle.std.specs.Prelude.{◌≡◌};
 ghost use Rattle.combine_combinator.specs.MadeCalls.{ParsesMade};
 ghost use Rattle.combine_combinator.specs.MadeParsers.{factory_maker};
@@ -12,9 +12,9 @@ use combine_base::stream::Stream;
 
 /// Parses from the start as the parser that the maker of a `factory` returns for this very stream.
 ///
-/// The `factory` is lawful: its maker may always be called, and the parsers that it returns are lawful.
+/// The `factory` is lawful: its maker may always be called, and what it returns is lawful.
 ///
-/// The meaning of `factory` on a view allows for each stream with that view, and for open beginnings of it. If the maker's parsers differ, that is more than one outcome; this contract fixes which one. Every call of a `factory` that begins afresh runs the same code.
+/// What `factory` means on a view allows for each stream that stands so, and for open beginnings of it. If the makers' parsers differ, that is more than one outcome. This says which comes. Every call of a `factory` that begins afresh runs the same code.
 #[inline]
 pub fn make_and_parse<
     Input: Stream,

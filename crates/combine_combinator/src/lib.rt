@@ -1,4 +1,4 @@
-//! Parsers made of one parser: `combinator`, `recognize`, `lazy` and `factory`.
+//! Parsers made of one parser.
 #![tactic(auto)]
 
 mod collecting;

@@ -1,4 +1,4 @@
-//! `recognize`, which collects the tokens that a parser took.
+//! What a parser takes, in place of its value.
 ghost use Rattle.std.specs.Prelude.{◌≡◌};
 ghost use Rattle.combine_combinator.specs.RecognizedTokens.{recognize_collecting_of};
 
@@ -8,21 +8,21 @@ use std::alloc::Global;
 use std::marker::PhantomData;
 use types::Recognize;
 
-/// Parses as `parser`, and returns the tokens that it took, collected in order in any `F: Append<Input::Token>`.
+/// Parses as `parser`, with the tokens that it took as the value, collected in order in any `F: Append<Input::Token>`.
 ///
 /// To collect them the stream is put back to where the call began, and they are read again.
 ///
 /// # Errors
 ///
-/// Commitment, count and refusals are those of `parser`. `Reset` and `Read` of the stream, and `Memory` if the collection can't grow, are committed, at the position where the call began.
+/// Kind, count and refusals are those of `parser`. `Reset` and `Read` of the stream, and `Memory` if the collection can't grow, are committed, at the position where the call began.
 ///
 /// # Partial input
 ///
-/// The tokens left unread on need of more are those that `parser` leaves. The state keeps the tokens that were taken, and the state of `parser`.
+/// The tokens that are left on need of more are those of `parser`. The state keeps the tokens that were taken, and the state of `parser`.
 ///
 /// # Differences from combine
 ///
-/// combine takes `F: Extend + Default`, and no allocator.
+/// The crate takes `F: Extend + Default`, and no allocator.
 ///
 /// # Examples
 ///

@@ -14,19 +14,19 @@ use Rattle.combine_decode.specs.declared.decode.BatchEnd.TheVariants as ends
 use Rattle.combine_decode.specs.declared.decode.DecodeError.{DecodeError}
 use Rattle.combine_decode.specs.declared.decode.DecodeError.TheVariants as errors
 
--- the tokens after messages are no more than all
+-- what is behind messages is no longer than all
 pub behind_within : {T V : Type 0} (message : Reading ℕ T V) (l : List T) (vs : List V) (behind : List T) → DividesMessages message l vs behind → length behind ≤ length l
 behind_within message l [] behind d = let e = ap length d in omega arith
 behind_within message l (v ∷ vs) behind d = let h = behind_within message (drop d.0 l) vs behind d.4 in omega (arith, length-drop d.0 l)
 
--- the tokens that a refusal counts where a session refused are within those after the messages
+-- what a refusal counts where a session refused is within what is behind the messages
 within_behind : {T : Type 0} (l unread : List T) (e : BatchEnd) → refused_at l unread e → refused_within l e
 within_behind l unread ends.More h = tt
 within_behind l unread (ends.Refused t k) h = h.0
 within_behind l unread ends.EmptyMessage h = tt
 
 module _ {F P T R E V S : Type 0} (makes : F → P → Type 0) (meaning : P → Meaning ℕ T R E V S) (from : F) where
-  -- a decoder of this maker that was fed these tokens, and returned these messages
+  -- a decoder of this maker that was fed these tokens, and gave these messages
   pub record DecoderWasFed (fed : List T) (vs : List V) (d : Decoding F P T S) : Type 0 where
     pub behind : List T
     pub divided : DividesMessages (made_reading meaning (makes from)) fed vs behind
@@ -48,7 +48,7 @@ module _ {F P T R E V S : Type 0} (makes : F → P → Type 0) (meaning : P → 
         divided_now : DividesMessages (made_reading meaning (makes from)) (fed ++ piece) (vs ++ b.messages.items) gives_now.behind
         divided_now = further_messages (made_reading meaning (makes from)) law fed piece vs b.messages.items far.behind gives_now.behind far.divided gives_now.divided
 
-        -- all messages of the tokens before and of the piece
+        -- all messages of what was fed, and the piece
         pub messages_now : (e : BatchEnd) (us : List V) → b.end ≡ e → us ≡ vs ++ b.messages.items → Messages (made_reading meaning (makes from)) (fed ++ piece) us e (length gives_now.behind)
         messages_now e us i j = record {
           behind = gives_now.behind;
@@ -58,7 +58,7 @@ module _ {F P T R E V S : Type 0} (makes : F → P → Type 0) (meaning : P → 
           number = refl;
         }
 
-        -- if more is needed, the decoder continues so
+        -- where more is needed, the decoder goes on so
         pub decoder_was_fed : (us : List V) → b.end ≡ ends.More → us ≡ vs ++ b.messages.items → DecoderWasFed (fed ++ piece) us new
         decoder_was_fed us i j = record {
           behind = gives_now.behind;
@@ -73,7 +73,7 @@ module _ {F P T R E V S : Type 0} (makes : F → P → Type 0) (meaning : P → 
           maker = h.maker ∙ far.maker;
         }
 
-    -- the reason why there are no messages, if the piece is within the whole input, and there is no limit
+    -- why there are no messages, where the piece is within the whole input, and there is no limit
     pub fails_now : (pieces : List (List T)) → old.limit + 1 ≡ 2 ^ 64 → length fed + length piece ≤ length (concatenated pieces) → (e : DecodeError) → Decodes makes meaning old new piece (Err e) → DecodesPieces (made_reading meaning (makes from)) pieces (Err e)
     fails_now pieces limit w errors.Memory h = record { is = tt }
     fails_now pieces limit w errors.TooLong h =
@@ -87,7 +87,7 @@ module _ {F P T R E V S : Type 0} (makes : F → P → Type 0) (meaning : P → 
     pub fails_more : (before after : List V) (pieces : List (List T)) → old.limit + 1 ≡ 2 ^ 64 → length fed + length piece ≤ length (concatenated pieces) → (e : DecodeError) → FeedsMore makes meaning old new piece before after (Err e) → DecodesPieces (made_reading meaning (makes from)) pieces (Err e)
     fails_more before after pieces limit w e h = ⊎_elim (λ i. subst (λ x. DecodesPieces (made_reading meaning (makes from)) pieces (Err x)) (sym i) (record { is = refl })) (λ i. fails_now pieces limit w e i) h.is
 
-  -- in a loop over the pieces, the first n of which were fed
+  -- in a loop over the pieces, of which the first n were fed
   module _ (law : IsReading (made_reading meaning (makes from))) (pieces : List (List T)) (n : ℕ) (vs : List V) (old : Decoding F P T S) (far : DecoderWasFed (concatenated (take n pieces)) vs old) (new : Decoding F P T S) (us : List V) where
     module _ (piece : List T) (within : n < length pieces) (at : get_or pieces n piece ≡ piece) where
       fed_next : concatenated (take n pieces) ++ piece ≡ concatenated (take (n + 1) pieces)

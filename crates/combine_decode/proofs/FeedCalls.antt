@@ -1,4 +1,4 @@
--- a call that feeds a decoder, by the contracts of its session and of the messages after it
+-- a call that feeds a decoder, by what its session and the messages after it promise
 use Rattle.std.proofs.Common.{ℕ, ◌+◌, ◌^◌, ◌<◌, ◌≤◌, ◌≡◌, refl, sym, ◌∙◌, ap, subst, List, ◌++◌, length, true, true≢false, arith, Result, Ok, Err, ⊎_elim}
 use Rattle.std.proofs.lemmas.List.{length-append, length-drop}
 use Rattle.combine_base.specs.Parser.Meaning.{Meaning}
@@ -20,7 +20,7 @@ use Rattle.combine_decode.specs.Decoders.{Decodes, Decoding, DecoderGoesOn, by_p
 use Rattle.combine_decode.proofs.DecodedPieces.{behind_within}
 use Rattle.combine_decode.proofs.OneMessage.{feeds_told}
 
--- a decoder continues only if there was neither an end nor a fault
+-- a decoder goes on only where there was neither an end nor a fault
 pub decoder_runs : (s : Phase) (u : Unit {0}) → checked_phase s ≡ Ok u → s ≡ phases.Running
 decoder_runs phases.Running u e = refl
 decoder_runs phases.Closed u e = absurd (cc)
@@ -34,7 +34,7 @@ module _ {F P T R E V S : Type 0} (makes : F → P → Type 0) (meaning : P → 
     fed_now : (mid : Course P T S) (r : Result (Answer V UnexpectedParse) SessionError) → Feeds meaning valid old.course mid piece true r → session.feeds_session meaning valid old.course mid piece true r
     fed_now mid r h = subst (λ z. by_stage meaning valid old.course mid piece true (session.feeds_session meaning valid old.course mid piece true) z r) s.after.stage h.is
 
-    -- all tokens after the messages, with the piece
+    -- all tokens behind the messages, with the piece
     all_waiting : old.waiting + length piece ≡ length (l ++ piece)
     all_waiting = let e = s.waiting in omega (arith, length-append l piece)
 
@@ -42,7 +42,7 @@ module _ {F P T R E V S : Type 0} (makes : F → P → Type 0) (meaning : P → 
   running_now r h = record { maker = kept; limit = same; is = subst (λ z. by_phase makes meaning old new piece z r) (sym running) h }
 
   module _ (mid : Course P T S) (all : ℕ) (is_all : all ≡ old.waiting + length piece) (within : all ≤ old.limit) where
-    -- a session without a limit takes every piece within the decoder's limit
+    -- a session without a limit takes what the decoder's limit admits
     pub never_too_long : old.limit < 2 ^ 64 → Feeds meaning valid old.course mid piece true (Err session_errors.TooLong) → (r : Result (Batch V) DecodeError) → Decodes makes meaning old new piece r
     never_too_long counted h r = running_now r (λ l s.
         let fed = all_fed l s in

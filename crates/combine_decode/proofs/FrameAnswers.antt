@@ -1,4 +1,4 @@
--- a length and then so many turns of any byte, as `frame` composes them, are a message after its length
+-- a length and then so many turns of any byte, as `frame` composes them, answer a message behind its length
 use Rattle.std.specs.Global.{Vec}
 use Rattle.std.proofs.Common.{ℕ, ◌<◌, ◌≤◌, ◌≡◌, refl, sym, ◌∙◌, ap, subst, length, take, drop, Bool, true, false, ◌||◌, nat_lt, arith, lt-ltb, ltb-true}
 use Rattle.std.proofs.lemmas.List.{length-drop}
@@ -13,7 +13,7 @@ use Rattle.combine_byte.specs.Numbers.{big_endian}
 use Rattle.combine_byte.specs.WholeNumbers.{whole_number}
 
 module _ {P N : Type 0} (step : P → ℕ → P) (made : ℕ → N) (means : N → Reading P ℕ (Vec ℕ)) (takes : (n : ℕ) (v : View P ℕ) (o : Outcome (Vec ℕ)) → means (made n) v o → takes_so_many step n (λ (m : Vec ℕ). m.items) ⊥ v o) where
-  -- the reading after a length
+  -- what is answered for a length
   abbrev bytes_read : ℕ → Reading P ℕ (Vec ℕ)
   bytes_read n v o = (p : N) × (p ≡ made n) × means p v o
 

@@ -9,7 +9,7 @@ use Rattle.combine_decode.specs.declared.decode.BatchEnd.TheVariants as ends
 use Rattle.combine_decode.specs.MessageLaws.{AreOne, CutsAgree, GoOn}
 use Rattle.combine_decode.specs.Messages.{DividesMessages, IsMade, Messages, SameEnd, SharesMeaning, made_reading, on_open, ends_messages, refused_within}
 
--- the tokens that a refusal counts are within a longer list too
+-- what a refusal counts is within a longer list too
 refused_longer : {T : Type 0} (l x : List T) (e : BatchEnd) → refused_within l e → refused_within (l ++ x) e
 refused_longer l x ends.More h = tt
 refused_longer l x (ends.Refused t k) h =
@@ -20,24 +20,24 @@ refused_longer l x ends.EmptyMessage h = tt
 
 module _ {T V : Type 0} (message : Reading ℕ T V) where
   module _ (law : IsReading message) where
-    -- a decision on an open list holds on every longer one
+    -- what is decided on an open list stays so on every longer one
     on_longer : (l x : List T) (o : Outcome V) → IsDecided o → on_open message l o → on_open message (l ++ x) o
     on_longer l x o d h = law.stays (record { position = 0; unread = l; is_open = true }) x true o refl d h
 
-    -- and so does a division into messages
+    -- and so is what is divided into messages
     divides_longer : (l : List T) (vs : List V) (behind x : List T) → DividesMessages message l vs behind → DividesMessages message (l ++ x) vs (behind ++ x)
     divides_longer l [] behind x d = ap (λ us. us ++ x) d
     divides_longer l (v ∷ vs) behind x d =
         let w = law.within (record { position = 0; unread = l; is_open = true }) v d.0 d.1 d.3 in
         (d.0, d.1, d.2, on_longer l x (Accepted v d.0 d.1) tt d.3, subst (λ us. DividesMessages message us vs (behind ++ x)) (sym (drop-append-le d.0 l x w)) (divides_longer (drop d.0 l) vs behind x d.4))
 
-    -- and the reason why no message follows, if it is an end
+    -- and why no message follows, where it is an end
     stops_longer : (l x : List T) (e : BatchEnd) → e ≢ ends.More → ends_messages (on_open message l) e → ends_messages (on_open message (l ++ x)) e
     stops_longer l x ends.More n h = absurd (n refl)
     stops_longer l x (ends.Refused t k) n h = on_longer l x (Refused k) tt h
     stops_longer l x ends.EmptyMessage n h = (h.0, h.1, on_longer l x (Accepted h.0 0 h.1) tt h.2)
 
-  -- messages, and then those after them
+  -- messages, and then those behind them
   divides_append : (l : List T) (vs ws : List V) (behind last : List T) → DividesMessages message l vs behind → DividesMessages message behind ws last → DividesMessages message l (vs ++ ws) last
   divides_append l [] ws behind last d e = subst (λ us. DividesMessages message us ws last) (sym d) e
   divides_append l (v ∷ vs) ws behind last d e = (d.0, d.1, d.2, d.3, divides_append (drop d.0 l) vs ws behind last d.4 e)
@@ -54,7 +54,7 @@ module _ {T V : Type 0} (message : Reading ℕ T V) where
     number = h.number;
   }
 
-  -- an end of the messages ends them whatever follows
+  -- what ends the messages ends them whatever follows
   pub ended_longer : IsReading message → (l x : List T) (vs : List V) (e : BatchEnd) (n : ℕ) → e ≢ ends.More → (h : Messages message l vs e n) → Messages message (l ++ x) vs e (length (h.behind ++ x))
   ended_longer law l x vs e n i h = record {
     behind = h.behind ++ x;
@@ -134,7 +134,7 @@ module _ {T V : Type 0} (message : Reading ℕ T V) where
         }
 
 module _ {P T R E V S : Type 0} (meaning : P → Meaning ℕ T R E V S) (makes : P → Type 0) where
-  -- the meaning of any parser that may be made is a reading
+  -- what any parser that may be made means is a reading
   pub made_is_reading : (lawful : P → Type 0) (fresh valid : S → Type 0) → IsMade makes lawful → ((p : P) → lawful p → IsMeaning fresh valid (meaning p)) → IsReading (made_reading meaning makes)
   made_is_reading lawful fresh valid m laws = record {
     ended = λ v e w. (laws w.0 (m.every w.0 w.1)).whole.ended v e w.2;
@@ -143,6 +143,6 @@ module _ {P T R E V S : Type 0} (meaning : P → Meaning ℕ T R E V S) (makes :
     within = λ v a n k w. (laws w.0 (m.every w.0 w.1)).whole.within v a n k w.2;
   }
 
-  -- it has one outcome if that of one parser is that of all
+  -- it has one outcome where that of one parser is that of all
   pub made_is_single : (lawful determined : P → Type 0) (valid : S → Type 0) → IsMade makes lawful → IsMade makes determined → SharesMeaning meaning makes → ((p : P) → lawful p → determined p → MeansOne valid (meaning p)) → IsSingle (made_reading meaning makes)
   made_is_single lawful determined valid l d s single = record { one = λ v o p h i. (single i.0 (l.every i.0 i.1) (d.every i.0 i.1)).whole.one v o p (s.every h.0 i.0 h.1 i.1 v o h.2) i.2 }

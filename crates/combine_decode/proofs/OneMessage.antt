@@ -1,4 +1,4 @@
--- one message of a decoder, by the contract of its session
+-- one message of a decoder, by what its session promises
 use Rattle.std.proofs.Common.{ℕ, ◌+◌, ◌<◌, ◌≤◌, ◌≡◌, nat_lt, if◌then◌else◌, ◌∷◌, refl, sym, ◌∙◌, ap, subst, List, [], ◌++◌, length, drop, Option, Bool, true, false, append_assoc, arith, ltb-true, lt-ltb, Result, Ok}
 use Rattle.std.proofs.lemmas.List.{drop-append-le, drop-drop, length-append, length-drop}
 use Rattle.combine_base.specs.Parser.Outcome.{Outcome, Accepted, Refused, Undecided}
@@ -16,7 +16,7 @@ use Rattle.combine_decode.specs.declared.decode.BatchEnd.TheVariants as ends
 use Rattle.combine_decode.specs.Messages.{After, DividesMessages, GivesMessages, AnswersMessage, made_reading, on_open, ends_messages, answers_message, refused_at}
 
 module _ {P T R E V S : Type 0} (meaning : P → Meaning ℕ T R E V S) where
-  -- a session of a parser that was made is at the beginning of a message
+  -- a session of a parser that was made stands at the beginning of a message
   pub message_begins : (valid : S → Type 0) (determined : P → Type 0) (makes : P → Type 0) (most : Option ℕ) (p : P) (c : Course P T S) → makes p → BeginsSession meaning valid determined most p c → After (made_reading meaning makes) meaning [] c
   message_begins valid determined makes most p c m h = record {
     left = λ x o l. (p, m, (h.left x true o).0 l);
@@ -29,7 +29,7 @@ module _ {P T R E V S : Type 0} (meaning : P → Meaning ℕ T R E V S) where
     fed_now : (r : Result (Answer V UnexpectedParse) SessionError) → Feeds meaning valid c new piece true r → session.feeds_session meaning valid c new piece true r
     fed_now r h = subst (λ s. by_stage meaning valid c new piece true (session.feeds_session meaning valid c new piece true) s r) far.stage h.is
 
-    -- the unread tokens then follow those that were taken
+    -- what is unread then is what follows the tokens that were taken
     all_unread : c.seen.unread ++ piece ≡ drop c.seen.position (l ++ piece)
     all_unread = ap (λ us. us ++ piece) far.unread ∙ sym (drop-append-le c.seen.position l piece far.within)
 
@@ -48,7 +48,7 @@ module _ {P T R E V S : Type 0} (meaning : P → Meaning ℕ T R E V S) where
     onward : ((x : List T) (m : Bool) (o : Outcome V) → left_of_session meaning new x m o → left_of_session meaning c (piece ++ x) m o) → (x : List T) (o : Outcome V) → left_of_session meaning new x true o → on_open message ((l ++ piece) ++ x) o
     onward f x o h = subst (λ z. on_open message z o) (sym (append_assoc l piece x)) (far.left (piece ++ x) o (f x true o h))
 
-    -- the result of the session on the piece, as one on all tokens of the message
+    -- what the session answered to the piece, as told of all tokens of the message
     tells : (a : Answer V UnexpectedParse) → session.ParsesPiece meaning valid c new piece true (Ok a) → answers_message message meaning (l ++ piece) new a
     tells answers.More h = (
       far.left piece Undecided h.is.means.is,
@@ -66,7 +66,7 @@ module _ {P T R E V S : Type 0} (meaning : P → Meaning ℕ T R E V S) where
         let e = h.is.all in
         (far.left piece (Refused k) h.is.means.is, subst (λ n. n ≤ length (l ++ piece)) e (left_within h.is.leaves), left_unread h.is.leaves ∙ ap (λ n. drop n (l ++ piece)) e)
 
-    -- it is open if the parse was
+    -- it is open where the parse was
     stays_open : (a : Answer V UnexpectedParse) → session.ParsesPiece meaning valid c new piece true (Ok a) → new.seen.is_open ≡ true
     stays_open answers.More h = h.is.leaves.is_open
     stays_open (answers.Accepted v t k) h = h.is.leaves.is_open
@@ -78,7 +78,7 @@ module _ {P T R E V S : Type 0} (meaning : P → Meaning ℕ T R E V S) where
     pub feeds_told : (a : Answer V UnexpectedParse) → Feeds meaning valid c new piece true (Ok a) → AnswersMessage message meaning (l ++ piece) new a
     feeds_told a h = parses_told a (fed_now (Ok a) h).1
 
-  -- a session with a result on a piece is open
+  -- a session that answered to a piece is open
   pub feeds_open : (valid : S → Type 0) (c new : Course P T S) (piece : List T) (a : Answer V UnexpectedParse) → Feeds meaning valid c new piece true (Ok a) → new.seen.is_open ≡ true
   feeds_open valid c new piece a h = by_its_stage c.stage h.is
     where
@@ -92,7 +92,7 @@ module _ {P T R E V S : Type 0} (meaning : P → Meaning ℕ T R E V S) where
       by_its_stage stages.Decided i = absurd (let e = i.0 in cc)
       by_its_stage stages.Failed i = absurd (let e = i.0 in cc)
 
-  -- a session that begins again with a parser that was made has the unread tokens of a message, and no others
+  -- a session that begins again with a parser that was made has what was unread of a message, and no other tokens
   pub again_told : (valid : S → Type 0) (determined : P → Type 0) (makes : P → Type 0) (p : P) (old new : Course P T S) (a : Answer V UnexpectedParse) → makes p → old.seen.is_open ≡ true → BeginsAgain meaning valid determined p old new (Ok a) → AnswersMessage (made_reading meaning makes) meaning old.seen.unread new a × (new.limit ≡ old.limit)
   again_told valid determined makes p old new a m o h = by_its_stage old.stage h.is
     where
@@ -106,7 +106,7 @@ module _ {P T R E V S : Type 0} (meaning : P → Meaning ℕ T R E V S) where
       by_its_stage stages.Decided i = begun i
       by_its_stage stages.Failed i = absurd (let e = i.0 in cc)
 
--- the measure of what remains: the unread tokens, and whether the session has accepted a message that takes some
+-- how much is left to do: the unread tokens, and whether a message was read that takes some
 abbrev pub remaining : {V : Type 0} → ℕ → Answer V UnexpectedParse → ℕ
 remaining u answers.More = u
 remaining u (answers.Accepted v t k) = u + (if nat_lt 0 t then 1 else 0)
@@ -116,14 +116,14 @@ pub smaller : {V : Type 0} (u : ℕ) (a : Answer V UnexpectedParse) (v : V) (t :
 smaller u a v t k e i n h = subst (λ z. n < remaining u z) (sym e) (subst (λ b. n < u + (if b then 1 else 0)) (sym (lt-ltb 0 t i)) (omega arith))
 
 module _ {P T R E V S : Type 0} (message : Reading ℕ T V) (meaning : P → Meaning ℕ T R E V S) where
-  -- the messages so far of these tokens, and the session's result on those after them
+  -- the messages so far of these tokens, and what the session was told of those behind them
   pub record GaveMessages (l : List T) (vs : List V) (c : Course P T S) (a : Answer V UnexpectedParse) (waiting : ℕ) : Type 0 where
     pub behind : List T
     pub divided : DividesMessages message l vs behind
     pub told : AnswersMessage message meaning behind c a
     pub number : waiting ≡ length behind
 
-  -- one more message
+  -- one message more
   one_more : (l : List T) (vs : List V) (behind : List T) (v : V) (t : ℕ) (k : Bool) → 0 < t → DividesMessages message l vs behind → on_open message behind (Accepted v t k) → DividesMessages message l (vs ++ v ∷ []) (drop t behind)
   one_more l [] behind v t k i d h = (t, k, i, subst (λ z. on_open message z (Accepted v t k)) (sym d) h, ap (drop t) d)
   one_more l (w ∷ vs) behind v t k i d h = (d.0, d.1, d.2, d.3, one_more (drop d.0 l) vs behind v t k i d.4 h)
@@ -162,7 +162,7 @@ module _ {P T R E V S : Type 0} (message : Reading ℕ T V) (meaning : P → Mea
       number = h.number;
     }
 
-  -- the next session was fed the tokens that the last message left
+  -- the next session was fed what the last message left
   pub next_message_fed : (l : List T) (vs : List V) (c : Course P T S) (v : V) (t : ℕ) (k : Bool) (waiting : ℕ) → GaveMessages l vs c (answers.Accepted v t k) waiting → 0 < t → (new : Course P T S) (a : Answer V UnexpectedParse) (next : ℕ) → AnswersMessage message meaning c.seen.unread new a → next ≡ length c.seen.unread → GaveMessages l (vs ++ v ∷ []) new a next
   next_message_fed l vs c v t k waiting h i new a next told n = record {
     behind = c.seen.unread;
@@ -171,7 +171,7 @@ module _ {P T R E V S : Type 0} (message : Reading ℕ T V) (meaning : P → Mea
     number = n;
   }
 
-  -- less remains
+  -- less is left to do
   pub less_to_decode : (l : List T) (c : Course P T S) (a : Answer V UnexpectedParse) → AnswersMessage message meaning l c a → remaining (length c.seen.unread) a ≤ length l
   less_to_decode l c answers.More h = let e = ap length h.is.1.unread in omega (arith, length-drop c.seen.position l)
   less_to_decode l c (answers.Accepted v t k) h = by_test (nat_lt 0 t) refl (ap length h.is.2) h.is.1

@@ -11,7 +11,7 @@ use Rattle.combine_repeat.specs.Turns.Blocks.{Block, Collecting, HoldsCollected,
 use Rattle.combine_repeat.specs.declared.bounds.Bounds.TheVariants.{Counted}
 use Rattle.combine_repeat.specs.declared.bounds.TurnIndex.{TurnIndex}
 
--- the result of appending tokens one by one
+-- what tokens appended one by one make
 folds_to : {T : Type 0} (h xs i : List T) → FoldsAll (λ us t ws. ws ≡ us ++ t ∷ []) h xs i → i ≡ h ++ xs
 folds_to h [] i f = sym f ∙ sym (append-nil h)
 folds_to h (x ∷ xs) i f = folds_to f.0 xs i f.2 ∙ ap (λ us. us ++ xs) f.1 ∙ append_assoc h (x ∷ []) xs
@@ -29,7 +29,7 @@ module _ {P T : Type 0} (step : P → T → P) (most : ℕ) where
   abbrev view : P → List T → Bool → View P T
   view p us o = record { position = p; unread = us; is_open = o }
 
-  -- how turns of any token stop with n of them after i
+  -- how turns of any token stop that has n of them behind i
   abbrev stopped : ℕ → Bool → ℕ → ℕ → Outcome (Unit {0}) → Type 0
   stopped i o n size (Accepted u m k) = (m ≡ 0) × (k ≡ false) × (i + n ≡ most)
   stopped i o n size (Refused k) = (k ≡ false) × (o ≡ false) × (n ≡ size) × (i + n < most)
@@ -76,7 +76,7 @@ module _ {P T : Type 0} (step : P → T → P) (most : ℕ) where
           let e : Undecided ≡ l = cc in
           subst (λ z. stopped i o 0 0 z) e (r.1, refl, omega arith)
 
-  -- one more token before them
+  -- a token more before them
   one_before : (i : ℕ) (o : Bool) (n m size more : ℕ) → m ≡ n + 1 → more ≡ size + 1 → (l : Outcome (Unit {0})) → stopped (i + 1) o n size l → stopped i o m more l
   one_before i o n m size more e f (Accepted u z k) s = (s.0, s.1, let a = s.2 in omega arith)
   one_before i o n m size more e f (Refused k) s = let a = s.2 in let b = s.3 in (s.0, s.1, omega arith, omega arith)

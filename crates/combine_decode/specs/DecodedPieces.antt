@@ -1,4 +1,4 @@
--- the contract of decoding a list of pieces
+-- what decoding a list of pieces promises
 use Rattle.std.specs.Prelude.{ℕ, ◌^◌, ◌≤◌, ◌≡◌, ◌⊎◌, List, ◌++◌, length, Result, Ok, Err}
 use Rattle.combine_base.specs.Parser.Meaning.{Meaning, Reading}
 use Rattle.combine_session.specs.Pieces.{concatenated}
@@ -11,7 +11,7 @@ use Rattle.combine_decode.specs.declared.decode.DecodeError.{DecodeError}
 use Rattle.combine_decode.specs.declared.decode.DecodeError.TheVariants as errors
 
 module _ {T V : Type 0} (message : Reading ℕ T V) (pieces : List (List T)) where
-  -- all messages of the pieces, one after another, and the reason why no more follow; or out of memory, or more than 2^64 - 1 tokens
+  -- all messages of the pieces, one after another, and why no more follow; or there was no memory, or more than 2^64 - 1 tokens
   abbrev pub decodes_pieces : Result (Batch V) DecodeError → Type 0
   decodes_pieces (Ok b) = (n : ℕ) × Messages message (concatenated pieces) b.messages.items b.end n
   decodes_pieces (Err errors.Memory) = Unit {0}
@@ -24,7 +24,7 @@ module _ {T V : Type 0} (message : Reading ℕ T V) (pieces : List (List T)) whe
     pub is : decodes_pieces result
 
 module _ {F P T R E V S : Type 0} (makes : F → P → Type 0) (meaning : P → Meaning ℕ T R E V S) (old new : Decoding F P T S) (piece : List T) (before after : List V) where
-  -- a piece is fed, and its messages are added to those before; or it is out of memory for them, or there are no messages
+  -- a piece is fed, and its messages stand behind those before; or there was no room for them, or no messages
   abbrev pub feeds_more : Result BatchEnd DecodeError → Type 0
   feeds_more (Ok e) = (b : Batch V) × Decodes makes meaning old new piece (Ok b) × (b.end ≡ e) × (after ≡ before ++ b.messages.items)
   feeds_more (Err e) = (e ≡ errors.Fault kinds.Memory) ⊎ Decodes makes meaning old new piece (Err e)

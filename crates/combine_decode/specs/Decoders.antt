@@ -1,4 +1,4 @@
--- a decoder as contracts see it, and the contracts of its calls
+-- what a decoder is seen as, and what its calls promise
 use Rattle.std.specs.Prelude.{ℕ, ◌+◌, ◌<◌, ◌≤◌, ◌≡◌, List, ◌++◌, length, None, Result, Ok, Err}
 use Rattle.combine_base.specs.Parser.Meaning.{Meaning}
 use Rattle.combine_session.specs.Sessions.{Course}
@@ -12,29 +12,29 @@ use Rattle.combine_decode.specs.declared.decode.DecodeError.TheVariants as error
 use Rattle.combine_decode.specs.declared.decode.Phase.{Phase}
 use Rattle.combine_decode.specs.declared.decode.Phase.TheVariants as phases
 
--- the state of a decoder
+-- how a decoder stands
 pub record Decoding (Maker Parser Token State : Type 0) : Type 0 where
   pub maker : Maker
   pub course : Course Parser Token State
   pub phase : Phase
-  -- the number of tokens after the last message, and the most there may be, with a piece
+  -- how many tokens stand behind the last message, and how many may, with a piece
   pub waiting : ℕ
   pub limit : ℕ
 
--- the phase of a decoder after such an end
+-- how far a decoder is after such an end
 abbrev pub phase_after : BatchEnd → Phase
 phase_after ends.More = phases.Running
 phase_after (ends.Refused taken committed) = phases.Closed
 phase_after ends.EmptyMessage = phases.Closed
 
--- the result of a call after an end or a fault, if any
+-- what a call answers that comes after an end or a fault
 abbrev pub checked_phase : Phase → Result Unit DecodeError
 checked_phase phases.Running = Ok tt
 checked_phase phases.Closed = Err errors.Closed
 checked_phase phases.Failed = Err errors.Failed
 
 module _ {F P T R E V S : Type 0} (makes : F → P → Type 0) (meaning : P → Meaning ℕ T R E V S) where
-  -- a decoder that may continue, with these tokens after the messages that it returned
+  -- a decoder that may go on, with these tokens behind the messages that it gave
   pub record DecoderGoesOn (l : List T) (d : Decoding F P T S) : Type 0 where
     pub phase : d.phase ≡ phases.Running
     pub after : After (made_reading meaning (makes d.maker)) meaning l d.course
@@ -43,7 +43,7 @@ module _ {F P T R E V S : Type 0} (makes : F → P → Type 0) (meaning : P → 
     pub session_limit : d.course.limit ≡ None
 
   module _ (old new : Decoding F P T S) (piece : List T) where
-    -- all messages of the tokens after those returned before, and the decoder's state then
+    -- all messages of the tokens behind those given before, and how the decoder then stands
     pub record Batches (l : List T) (b : Batch V) : Type 0 where
       pub gives : GivesMessages (made_reading meaning (makes old.maker)) meaning (l ++ piece) new.course new.waiting b
       pub phase : new.phase ≡ phase_after b.end
@@ -54,7 +54,7 @@ module _ {F P T R E V S : Type 0} (makes : F → P → Type 0) (meaning : P → 
       pub phase : new.phase ≡ phases.Failed
       pub waiting : new.waiting ≡ old.waiting
 
-    -- the tokens after those messages and the piece are within the limit, or it is too long
+    -- the tokens behind those messages and the piece are within the limit, or that is too long
     abbrev pub decodes : List T → Result (Batch V) DecodeError → Type 0
     decodes l (Ok b) = (length l + length piece ≤ old.limit) × Batches l b
     decodes l (Err (errors.Fault k)) = (length l + length piece ≤ old.limit) × (k ≡ kinds.Memory) × Faults
@@ -68,7 +68,7 @@ module _ {F P T R E V S : Type 0} (makes : F → P → Type 0) (meaning : P → 
     by_phase phases.Closed r = (r ≡ Err errors.Closed) × (new ≡ old)
     by_phase phases.Failed r = (r ≡ Err errors.Failed) × (new ≡ old)
 
-    -- the contract of a call that feeds a piece
+    -- what a call that feeds a piece promises
     pub record Decodes (r : Result (Batch V) DecodeError) : Type 0 where
       pub maker : new.maker ≡ old.maker
       pub limit : new.limit ≡ old.limit

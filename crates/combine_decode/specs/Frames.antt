@@ -1,4 +1,4 @@
--- a message after its length
+-- a message behind its length
 use Rattle.std.specs.Prelude.{ℕ, ◌+◌, ◌<◌, ◌≤◌, ◌≡◌, List, Bool, true, false, nat_lt, length, take, drop}
 use Rattle.std.specs.Global.{Vec}
 use Rattle.std.specs.declared.alloc.Global.{Global}
@@ -22,16 +22,16 @@ allocator_of f = f.alloc
 abbrev pub frame_of : {Input O N B : Type 0} → Global → Answered (WholeNumber Input O N) (Framing Input) B
 frame_of alloc = answered_of number_parser (framing_of alloc)
 
--- the length in the first two bytes, big-endian
+-- the length that stands in the first two bytes, the highest first
 abbrev pub length_read : List ℕ → ℕ
 length_read bytes = big_endian (take 2 bytes)
 
--- there are fewer bytes than the length, or no whole length
+-- fewer bytes stand there than the length says, or no whole length
 abbrev pub short_of : List ℕ → Type 0
 short_of bytes = length bytes < 2 + length_read bytes
 
 module _ {P : Type 0} where
-  -- the message is the bytes after the length, as many as the length is
+  -- the message is the bytes behind the length, of which there are as many as it says
   pub record FramedMessage (v : View P ℕ) (m : Vec ℕ) (n : ℕ) (k : Bool) : Type 0 where
     pub two : 2 ≤ length v.unread
     pub enough : 2 + length_read v.unread ≤ length v.unread
@@ -39,7 +39,7 @@ module _ {P : Type 0} where
     pub count : n ≡ 2 + length_read v.unread
     pub committed : k ≡ true
 
-  -- A length of two bytes, and then so many bytes. If there are too few, more are needed where more may follow; else it is refused, committed after the length.
+  -- A length of two bytes, and then so many bytes. Too few of them wait for more where more may follow; else they are refused, committed behind the length.
   abbrev pub framed : Reading P ℕ (Vec ℕ)
   framed v (Accepted m n k) = FramedMessage v m n k
   framed v (Refused k) = (v.is_open ≡ false) × short_of v.unread × (k ≡ nat_lt 1 (length v.unread))

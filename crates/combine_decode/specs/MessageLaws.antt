@@ -1,4 +1,4 @@
--- laws of messages
+-- what messages are beside one another
 use Rattle.std.specs.Prelude.{ℕ, ◌≡◌, List, ◌++◌, length, Ok}
 use Rattle.combine_base.specs.Parser.Meaning.{Reading}
 use Rattle.combine_session.specs.Pieces.{concatenated}
@@ -8,7 +8,7 @@ use Rattle.combine_decode.specs.declared.decode.Batch.{Batch}
 use Rattle.combine_decode.specs.declared.decode.BatchEnd.{BatchEnd}
 
 module _ {T V : Type 0} (message : Reading ℕ T V) where
-  -- If tokens are these messages and then some unread ones, the messages of the tokens and x are these, and then those of the unread ones and x.
+  -- Where tokens are these messages and then some that are left, the messages of the tokens and x are these, and then those of what is left and x.
   abbrev pub GoOn : Type 0
   GoOn = (l : List T) (vs : List V) (behind : List T) → DividesMessages message l vs behind → (x : List T) (ws : List V) (e : BatchEnd) (n : ℕ) → Messages message (behind ++ x) ws e n → Messages message (l ++ x) (vs ++ ws) e n
 
@@ -25,6 +25,6 @@ module _ {T V : Type 0} (message : Reading ℕ T V) where
     pub count : length b.messages.items ≡ length c.messages.items
     pub end : SameEnd b.end c.end
 
-  -- so do batches that are decoded of two cuts of the same tokens
+  -- so it is of what is decoded of two cuts of the same tokens
   abbrev pub CutsAgree : Type 0
   CutsAgree = (ps qs : List (List T)) (b c : Batch V) → concatenated ps ≡ concatenated qs → DecodesPieces message ps (Ok b) → DecodesPieces message qs (Ok c) → BatchesAgree b c

@@ -23,35 +23,35 @@ use std::alloc::Global;
 use std::marker::Model;
 use types::Frame;
 
-/// The reason why a batch has no more messages.
+/// Why no more messages are given.
 #[derive(Clone, Copy, Debug, PartialEq, Eq)]
 pub enum BatchEnd {
     /// More input is needed.
     More,
-    /// The next message is refused, after the tokens of the messages before it and `taken` more.
+    /// The next message is refused. The tokens of the messages before it, and `taken` more, stand before that place.
     Refused {
-        /// The number of tokens taken, from the beginning of the message, where it was refused.
+        /// How many tokens had been taken, from the beginning of the message, where it was refused.
         taken: u64,
-        /// Whether it is committed.
+        /// Set if it is committed.
         committed: bool,
     },
     /// The next message takes nothing.
     EmptyMessage,
 }
 
-/// The messages that a piece completes, in order, and the reason why there are no more.
+/// The messages that a piece completes, in order, and why there are no more.
 #[derive(Debug, Drop, PartialEq)]
 pub struct Batch<V> {
     /// The messages, in order.
     pub messages: Vec<V>,
-    /// The reason why there are no more.
+    /// Why there are no more.
     pub end: BatchEnd,
 }
 
-/// The reason why a decoder returns no messages.
+/// Why a decoder gives no messages.
 #[derive(Clone, Copy, Debug, PartialEq, Eq)]
 pub enum DecodeError {
-    /// Out of memory for the piece. Nothing has changed.
+    /// The piece found no room. Nothing has changed.
     Memory,
     /// The tokens after the last message and the piece would be more than the limit. Nothing has changed.
     TooLong,
@@ -59,24 +59,24 @@ pub enum DecodeError {
     Fault(Kind),
     /// The messages have ended.
     Closed,
-    /// There was a fault before.
+    /// A fault came before.
     Failed,
 }
 
-/// The phase of a decoder.
+/// How far a decoder has come.
 #[derive(Clone, Copy, Debug, PartialEq, Eq)]
 pub enum Phase {
     /// It may be fed.
     Running,
     /// The messages have ended.
     Closed,
-    /// There was a fault.
+    /// A fault came.
     Failed,
 }
 
-/// A decoder of messages that follow one another in tokens fed piece by piece.
+/// A decoder of messages that stand one after another in tokens which are fed piece by piece.
 ///
-/// It keeps the unread tokens and its parser's collected values, however long a message grows. Against a peer that never ends one, `with_limit` bounds the number of its tokens.
+/// It keeps what is unread, and what its parser has collected, however long a message grows. Against a peer that never ends one, `with_limit` bounds how many tokens it may have.
 ///
 /// # Examples
 ///
@@ -103,7 +103,7 @@ pub struct Decoder<F: Maker<Output = P>, P: Parser<fed::Stream<T>>, T: Copy + 's
     maker: F,
     session: Session<P, T>,
     phase: Phase,
-    // how many tokens there are after the last message
+    // how many tokens stand after the last message
     waiting: usize,
     // how many of them there may be, with a piece
     limit: usize,
@@ -121,19 +121,19 @@ impl<F: Maker<Output = P>, P: Parser<fed::Stream<T>>, T: Copy + 'static> Model
 impl<F: Maker<Output = P>, P: Parser<fed::Stream<T>>, T: Copy + 'static> Decoder<F, P, T> {
     ghost use Rattle.combine_decode.specs.Decoders.{Decodes, DecoderGoesOn};
 
-    /// Returns a decoder, without input yet, of messages that the maker's parsers parse.
+    /// Returns a decoder that was fed nothing yet, of messages that the maker's parsers read.
     ///
     /// The maker must always be callable, and each parser that it returns must be lawful. It is called here, and then after each message.
     ///
     /// # Errors
     ///
-    /// None: a decoder allocates only when pieces are fed.
+    /// None: a decoder takes no memory by itself, but where pieces are fed.
     ///
     /// # Partial input
     ///
-    /// Nothing is parsed yet, not even the empty input: the first result comes with the first piece.
+    /// Nothing is parsed yet, not even what is empty: the first result comes with the first piece.
     ///
-    /// A message may have up to 2^64 - 1 tokens; `with_limit` sets another limit.
+    /// A message may have as many tokens as can be counted, which are 2^64 - 1; `with_limit` sets another limit.
     pub fn new(alloc: Global, maker: F) -> Self
         requires callable { F.callable maker }
         requires lawful { IsMade (F.returns maker) P.lawful }
@@ -144,9 +144,9 @@ impl<F: Maker<Output = P>, P: Parser<fed::Stream<T>>, T: Copy + 'static> Decoder
         Self::with_limit(alloc, maker, usize::MAX)
     }
 
-    /// Returns a decoder as `new` does, with at most `limit` tokens after its last message. They are those of the message that isn't complete yet, whether its parser has taken them or not.
+    /// Returns a decoder as `new` does, after whose last message at most `limit` tokens ever stand: those of the message that isn't complete yet, whether its parser has taken them or not.
     ///
-    /// A piece is `TooLong` if it would make them more, whatever it contains, so a peer that never ends a message can't fill memory. Allow at least the longest message and the longest piece together.
+    /// A piece is `TooLong` where it and those before it are more, whatever it holds, so a peer that never ends a message can't fill memory. Make it at least the longest message and the longest piece together.
     ///
     /// # Examples
     ///
@@ -200,22 +200,22 @@ impl<F: Maker<Output = P>, P: Parser<fed::Stream<T>> + Drop, T: Copy + 'static> 
 
     /// Feeds a piece, which may be empty, and returns all messages that it completes.
     ///
-    /// The messages returned so far are exactly those of the tokens so far, in order. Each begins where the last one ended: the tokens after it, even none, are the next one's, which may be refused there, or end all by taking nothing.
+    /// The messages given so far are those of all tokens so far, in order, and no others. Each begins where the last one ended: what stands after it, also nothing, goes to the next, which may be refused there, or end all by taking nothing.
     ///
     /// # Errors
     ///
-    /// With an error no message is returned, and the piece isn't counted as fed.
+    /// An error gives no message, and the piece isn't counted as fed.
     ///
     /// - `Closed` after an end other than `More`, and `Failed` after a fault: each time, and nothing changes.
     /// - `TooLong` if the tokens after the last message and the piece are more than the limit. A shorter piece may follow.
-    /// - `Memory` if out of memory for the piece. This error and those above come before any parsing, in this order, and change nothing: the piece may be fed again.
-    /// - `Fault`, of kind `Memory`, if the parser, on this message or a later one, or the list of messages is out of memory. The messages that the piece completed are dropped, and each later `feed` returns `Failed`.
+    /// - `Memory` if the piece finds no room. This and those before come before any parsing, in this order, and change nothing: the piece may be fed again.
+    /// - `Fault`, of kind `Memory`, if a growth is refused later: the parser's, on this message or on one after it, or that of the list of messages. The messages that the piece completed are let go, and `Failed` follows always.
     ///
     /// # Partial input
     ///
-    /// The end is `More` exactly if the next message is undecided on the tokens after the last one, open. With the next piece it continues from where it stopped, and the tokens that its parser put back are read again.
+    /// The end is `More` exactly where the next message is undecided on the tokens after the last one, open. It goes on with the next piece from where it stopped, and what its parser put back is read again then.
     ///
-    /// Each message is returned with the piece that decides it. However the tokens are cut, there are as many messages, and the same end except for the number of tokens that a refusal counts, if the maker's parsers share one meaning that has one outcome.
+    /// Each message is given with the piece that decides it. However the tokens are cut, there are as many messages, and the same end but for how many tokens a refusal counts, where the maker's parsers share one meaning that has one outcome.
     pub fn feed(&mut self, piece: &[T]) -> Result<Batch<P::Output>, DecodeError>
         requires callable { F.callable self.old.maker }
         requires lawful { IsMade (F.returns self.old.maker) P.lawful }
@@ -255,7 +255,7 @@ impl<F: Maker<Output = P>, P: Parser<fed::Stream<T>> + Drop, T: Copy + 'static> 
 impl Phase {
     ghost use Rattle.combine_decode.specs.Decoders.{checked_phase};
 
-    /// Returns an error if a decoder may not continue.
+    /// Refuses where a decoder may not go on.
     fn check(self) -> Result<(), DecodeError>
         ensures { result ≡ checked_phase self }
     {
@@ -267,7 +267,7 @@ impl Phase {
     }
 }
 
-/// Returns the sum of the waiting tokens and these more, or `TooLong` if it is above the limit.
+/// Returns how many tokens wait with these more, unless that is more than the limit.
 fn admit(waiting: usize, more: usize, limit: usize) -> Result<usize, DecodeError>
     ensures { MatchResult result (λ all. (all ≡ waiting + more) × (all ≤ limit)) (λ e. (e ≡ errors.TooLong) × (limit < waiting + more)) }
 {
@@ -280,7 +280,7 @@ fn admit(waiting: usize, more: usize, limit: usize) -> Result<usize, DecodeError
 impl BatchEnd {
     ghost use Rattle.combine_decode.specs.Decoders.{phase_after};
 
-    /// Returns the phase of a decoder after this end.
+    /// Returns how far a decoder is after it.
     fn phase(self) -> Phase
         ensures { result ≡ phase_after self }
     {
@@ -291,17 +291,17 @@ impl BatchEnd {
     }
 }
 
-/// Parses a big-endian length of two bytes and then that many bytes, which are the value. Our own.
+/// Takes a message after its length, a number of two bytes, the highest first: the bytes of the message are the value. Our own.
 ///
-/// It is `be_u16`, and then that many bytes by `count_min_max` of `any`. Room grows as bytes come: a length makes room for at most 1,024 of them at once.
+/// It is `be_u16`, and then that many bytes by `count_min_max` of `any`. Room is had as bytes come: a length takes room for no more than 1,024 of them at once.
 ///
 /// # Errors
 ///
-/// Ended input that is too short is refused: peeked within the length, committed after it. Nothing else is refused. Out of memory is a fault of kind `Memory`.
+/// Ended input that is too short is refused: peeked within the length, committed after it. Nothing else is refused. A growth that is refused is a fault of kind `Memory`.
 ///
 /// # Partial input
 ///
-/// On need of more the length and the bytes after it are kept; the first byte of a length alone is put back.
+/// On need of more the length is kept, and so are the bytes after it; the first byte of a length alone is put back.
 #[inline]
 pub fn frame<Input>(alloc: Global) -> Frame<Input>
     ensures { result ≡ frame_of alloc }
@@ -321,7 +321,7 @@ fn begin<F: Maker<Output = P>, P: Parser<fed::Stream<T>>, T: Copy + 'static>(
     Session::new(alloc, maker.make())
 }
 
-/// Begins the next message on the tokens that the last one left unread.
+/// Begins the next message on what the last one left unread.
 fn begin_next<F: Maker<Output = P>, P: Parser<fed::Stream<T>> + Drop, T: Copy + 'static>(
     maker: &F,
     session: &mut Session<P, T>,
@@ -337,7 +337,7 @@ fn begin_next<F: Maker<Output = P>, P: Parser<fed::Stream<T>> + Drop, T: Copy + 
     }
 }
 
-/// Returns the messages that follow from a result of the session on.
+/// Returns the messages that follow a result of the session.
 fn drain<F: Maker<Output = P>, P: Parser<fed::Stream<T>> + Drop, T: Copy + 'static>(
     alloc: Global,
     maker: &F,
@@ -353,7 +353,6 @@ fn drain<F: Maker<Output = P>, P: Parser<fed::Stream<T>> + Drop, T: Copy + 'stat
     let mut messages = Vec::new(alloc);
     let mut answer = first;
     let mut behind = *waiting;
-    // The label names the loop's invariant.
     'messages: loop {
         match answer {
             Answer::More => {

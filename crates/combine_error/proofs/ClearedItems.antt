@@ -1,4 +1,4 @@
--- the expected items are removed, except among the first items
+-- what was expected is no longer said, but by the first items
 use Rattle.std.proofs.Common.{ℕ, zero, suc, ◌≤◌, ◌≡◌, List, [], ◌∷◌, ◌++◌, length, take, drop, map, ap, refl}
 use Rattle.std.proofs.lemmas.List.{append-nil, take_all, drop_all}
 use Rattle.combine_base.specs.Error.Items.{others}

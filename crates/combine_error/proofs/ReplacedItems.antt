@@ -1,4 +1,4 @@
--- items in place of those that a part expects
+-- what is said in place of what a part expects
 use Rattle.std.proofs.Common.{ℕ, ◌≡◌, ◌⊎◌, inl, inr, List, [], ◌∷◌, ◌++◌, Bool, true, false, ◌&&◌, not, if◌then◌else◌, length, take, drop, ap, sym, ◌∙◌, refl, append_assoc}
 use Rattle.std.proofs.lemmas.List.{append-nil}
 use Rattle.std.specs.List.{list_any}
@@ -89,7 +89,7 @@ module _ {T R P E : Type 0} (s : Observers T R P E) where
         let r = all_items js is p.0 in
         (r.0, ap (with_items s js) p.1 ∙ r.1, ap (with_items s (others js)) p.2 ∙ r.2)
 
-    -- added, and the expected items then removed after those that were there: the others are added
+    -- added, and what was expected then dropped after those that were there: what wasn't expected was added
     pub cleared : (js is : List (ErrorItem T R)) → take (length is) (with_items s js is) ++ others (drop (length is) (with_items s js is)) ≡ with_items s (others js) is
     cleared js is =
         let r = all_items js is [] in
@@ -97,7 +97,7 @@ module _ {T R P E : Type 0} (s : Observers T R P E) where
         let y : with_items s (others js) is ≡ is ++ others r.0 = ap (with_items s (others js)) (sym (append-nil is)) ∙ r.2 in
         ap (λ l. take (length is) l ++ others (drop (length is) l)) x ∙ ap (λ l. l ++ others (drop (length is) (is ++ r.0))) (front is r.0) ∙ ap (λ l. is ++ others l) (back is r.0) ∙ sym y
 
-    -- the items of `expected`
+    -- what `expected` adds
     pub says_in_place : (heapless : Type 0) (adds : List (ErrorItem T R) → Type 0) (i : ErrorItem T R) (kept : ℕ) (e0 e1 e2 e3 : E) → kept ≡ length (s.items e0) → AddsItems s heapless adds e0 e1 → ClearedAfter s kept e1 e2 → AddsItems s (Unit {0}) (Only i) e2 e3 → AddsItems s heapless (ReplacesExpected adds i) e0 e3
     says_in_place heapless adds i kept e0 e1 e2 e3 k a c b = by_first a.is
       where
@@ -135,7 +135,7 @@ module _ {T R P E : Type 0} (s : Observers T R P E) where
         by_first (inl w) = items_first w.0 w.1 w.2
         by_first (inr u) = memory_first u
 
-  -- the items of `message`
+  -- what `message` adds
   pub says_and_then : (heapless : Type 0) (adds : List (ErrorItem T R) → Type 0) (i : ErrorItem T R) (e0 e1 e2 : E) → AddsItems s heapless adds e0 e1 → AddsItems s (Unit {0}) (Only i) e1 e2 → AddsItems s heapless (WithOneMore adds i) e0 e2
   says_and_then heapless adds i e0 e1 e2 a b = by_first a.is b.is
     where

@@ -1,4 +1,4 @@
--- the results of a parser whose errors are changed, and the errors of its refusals
+-- the answers of a parser whose errors are shaped, and the errors of its refusals
 use Rattle.std.proofs.Common.{◌≡◌, ◌⊎◌, inl, inr, List, Bool, true, false, sym, subst}
 use Rattle.combine_base.specs.Error.Items.{ErrorItem}
 use Rattle.combine_base.specs.Error.Errors.{Observers, Only, AddsItems, Added, Unstored, Cleared}
@@ -75,7 +75,7 @@ module _ {P T R A S E : Type 0} (s : Observers T R P E) (step : P → T → P) (
       by_case (CommitOk v) y i p = rw i p
       by_case (PeekOk v) y i p = rw i p
 
--- the errors made from those of a call, from the start or from a state
+-- what is made of the errors of a call, begun afresh or from a state
 pub saying_reasons : {P T R A S E V : Type 0} (m : Meaning P T R E A S) (adds : List (ErrorItem T R) → Type 0) (f : Refusing P T E → Refusing P T E) (first : Bool) (z : S) (old new : View P T) {kind : E → Kind} {is_open : Bool} {result : ParseResult V E} → Reasoned kind is_open (f (begun_refuses m first z) old new) result → Reasoned kind is_open (begun_refuses (saying m adds f) first z old new) result
 saying_reasons m adds f true z old new h = h
 saying_reasons m adds f false z old new h = h
@@ -88,7 +88,7 @@ module _ {T R P E : Type 0} (s : Observers T R P E) (is_open : Bool) (refuses : 
   hushed_part = RefusesWithoutExpected s refuses old new
 
   module _ {V : Type 0} where
-    -- the errors of refusals with an added item
+    -- the errors of refusals that are made to say more
     pub adds_on_refusal_reasons : (i : ErrorItem T R) (x y : ParseResult V E) → AddsOnRefusal s is_open (Only i) x y → Reasoned s.kind is_open part x → Reasoned s.kind is_open (refuses_with_item s i refuses old new) y
     adds_on_refusal_reasons i x y t p = by_case x y t.is p
       where
@@ -109,7 +109,7 @@ module _ {T R P E : Type 0} (s : Observers T R P E) (is_open : Bool) (refuses : 
         by_case (PeekOk v) y j p = rw j (reasons_peek_ok s.kind is_open (refuses_with_item s i refuses old new) v)
         by_case (PeekErr t) y j p = rw j (reasons_peeked s.kind is_open (refuses_with_item s i refuses old new) t (reason_peeked s.kind is_open part t p))
 
-    -- and of those without the expected items
+    -- and of those that no longer say what was expected
     pub clears_expected_reasons : (x y : ParseResult V E) → ClearsExpected s is_open x y → Reasoned s.kind is_open part x → Reasoned s.kind is_open hushed_part y
     clears_expected_reasons x y t p = by_case x y t.is p
       where

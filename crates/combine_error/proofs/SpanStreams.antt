@@ -75,11 +75,11 @@ module _ {P T : Type 0} (step : P → T → P) where
   span_ahead : (k : ℕ) (w u : View P T) → Ahead (span_step step) k (spanned_view w) (spanned_view u) → Ahead step k w u
   span_ahead k w u h = record { enough = h.enough; position = ap (λ (s : Span P). s.end) (h.position ∙ span_after step w.position (take k w.unread)); unread = h.unread }
 
-  -- a property of the views at a checkpoint
+  -- what holds of where a checkpoint stands
   pub span_since : (stands : View P T → Type 0) (u : View P T) (holds : ℕ → Type 0) → ((k : ℕ) (w : View P T) → stands w → Ahead step k w u → holds k) → (k : ℕ) (v : View (Span P) T) → IsSpannedView stands v → Ahead (span_step step) k v (spanned_view u) → holds k
   span_since stands u holds h k v p a = h k p.inner p.stands (span_ahead k p.inner u (subst (λ (x : View (Span P) T). Ahead (span_step step) k x (spanned_view u)) p.is a))
 
-  -- the tokens taken since a checkpoint
+  -- what was taken since a checkpoint
   pub span_distance : (size : T → ℕ) (stands : View P T → Type 0) (u : View P T) (n : ℕ) → ((w : View P T) (k : ℕ) → stands w → Ahead step k w u → n ≡ size_of size (take k w.unread)) → (v : View (Span P) T) (k : ℕ) → IsSpannedView stands v → Ahead (span_step step) k v (spanned_view u) → n ≡ size_of size (take k v.unread)
   span_distance size stands u n h v k p a =
       let b = span_ahead k p.inner u (subst (λ (x : View (Span P) T). Ahead (span_step step) k x (spanned_view u)) p.is a) in

@@ -1,4 +1,4 @@
--- the results of `spanned`, by those of its part, and the errors of its refusals
+-- the answers of `spanned`, by those of its part, and the errors of its refusals
 use Rattle.std.proofs.Common.{◌≡◌, inl, inr, Bool, true, false, Some, None, sym, subst, refl, ◌∙◌}
 use Rattle.std.specs.declared.cmp.Ordering.{Ordering}
 use Rattle.std.specs.declared.cmp.Ordering.TheVariants.{Less, Equal, Greater}
@@ -32,7 +32,7 @@ module _ {T R Q E : Type 0} (cmp : Q → Q → Ordering) (s : Observers T R (Spa
       by_case (inl i) = i.1.kind
       by_case (inr i) = rw i.1 refl
 
-  -- an error at one position gets the span; one at a longer span, or without a position, is unchanged
+  -- an error that stands at one position is placed; one that stands at a longer span, or keeps none, stays
   pub spans_at_one : (place span : Span Q) (e e' : E) → s.position e ≡ Some place → cmp place.start place.end ≡ Equal → MovesPosition s span e e' → Spans cmp s span e e'
   spans_at_one place span e e' i j p = record { is = inl (rw i j, p) }
 

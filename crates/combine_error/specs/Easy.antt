@@ -1,4 +1,4 @@
--- the observers of an error that keeps its items
+-- what is seen of an error that keeps its items
 use Rattle.std.specs.Prelude.{ℕ, ◌≡◌, List, ◌++◌, Bool, true, false, nat_eq, map, take, drop, Some, refl}
 use Rattle.std.specs.List.{filter}
 use Rattle.std.specs.Str.{bytes_eq}
@@ -14,18 +14,18 @@ said (errors.Unexpected i) = Unexpected (shown i)
 said (errors.Expected i) = Expected (shown i)
 said (errors.Message i) = Message (shown i)
 
--- an item that isn't an expected one
+-- does not say what was expected
 abbrev pub is_other : {T R : Type 0} → Error T R → Bool
 is_other (errors.Unexpected i) = true
 is_other (errors.Expected i) = false
 is_other (errors.Message i) = true
 
--- the first n items, and the rest without the expected ones
+-- the first n items, and those of the rest that don't say what was expected
 abbrev pub cleared_from : {T R : Type 0} → ℕ → List (Error T R) → List (Error T R)
 cleared_from n xs = take n xs ++ filter is_other (drop n xs)
 
 module _ {T R : Type 0} (token_eq : T → T → Bool) (range_eq : R → R → Bool) where
-  -- a text is equal only to one held in the same way
+  -- a text is equal only to one that is held alike
   abbrev pub about_same : About T R → About T R → Bool
   about_same (OfToken a) (OfToken b) = token_eq a b
   about_same (OfRange a) (OfRange b) = range_eq a b

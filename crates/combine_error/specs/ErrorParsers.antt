@@ -1,9 +1,9 @@
--- the parsers that change errors, by their parts
+-- the parsers that shape errors, by their parts
 use Rattle.combine_error.specs.declared.error.types.Expected.{Expected}
 use Rattle.combine_error.specs.declared.error.types.Message.{Message}
 use Rattle.combine_error.specs.declared.error.types.Silent.{Silent}
 
--- `message` of a parser and its message
+-- `message` of a parser and what is to be said
 abbrev pub message_of : {P I : Type 0} → P → I → Message P I
 message_of p i = record { parser = p; info = i }
 
@@ -13,7 +13,7 @@ message_part m = m.parser
 abbrev pub message_info : {P I : Type 0} → Message P I → I
 message_info m = m.info
 
--- `expected` of a parser and its expected item
+-- `expected` of a parser and what was expected
 abbrev pub expected_of : {P I : Type 0} → P → I → Expected P I
 expected_of p i = record { parser = p; info = i }
 

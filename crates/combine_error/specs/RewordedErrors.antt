@@ -1,4 +1,4 @@
--- parsers with the outcomes of another and other items in errors
+-- parsers that mean what another means, and say something else
 use Rattle.std.specs.Prelude.{◌≡◌, ◌↔◌, ◌⊎◌, List, [], ◌∷◌, ◌++◌, Bool, true, false}
 use Rattle.combine_base.specs.Error.Items.{ErrorItem, others}
 use Rattle.combine_base.specs.Error.Errors.{Observers, AddsItems, Added, Cleared}
@@ -12,20 +12,20 @@ use Rattle.combine_base.specs.declared.error.result.ParseResult.TheVariants.{Com
 abbrev pub WithOneMore : {T R : Type 0} → (List (ErrorItem T R) → Type 0) → ErrorItem T R → List (ErrorItem T R) → Type 0
 WithOneMore {T} {R} adds i is = (js : List (ErrorItem T R)) × adds js × (is ≡ js ++ i ∷ [])
 
--- these items without the expected ones, and then one more
+-- these items but those that say what was expected, and then one more
 abbrev pub ReplacesExpected : {T R : Type 0} → (List (ErrorItem T R) → Type 0) → ErrorItem T R → List (ErrorItem T R) → Type 0
 ReplacesExpected {T} {R} adds i is = (js : List (ErrorItem T R)) × adds js × (is ≡ others js ++ i ∷ [])
 
--- errors made from a part's errors: more from more
+-- what is made of a part's errors: where the part has more, so has this
 pub record IsMonotone {P T E : Type 0} (f : Refusing P T E → Refusing P T E) : Type 1 where
   pub into : (r r' : Refusing P T E) → ((v w : View P T) (k : Bool) (e : E) → r v w k e → r' v w k e) → (v w : View P T) (k : Bool) (e : E) → f r v w k e → f r' v w k e
 
--- equal errors are made from equal ones
+-- of the same errors the same is made
 made_same : {P T E : Type 0} (f : Refusing P T E → Refusing P T E) → IsMonotone f → (r r' : Refusing P T E) → SameReasons r r' → SameReasons (f r) (f r')
 made_same f i r r' h v w k e = (i.into r r' (λ v w k e. (h v w k e).0) v w k e, i.into r' r (λ v w k e. (h v w k e).1) v w k e)
 
 module _ {P T R E A S : Type 0} where
-  -- the meaning of another parser, except that it adds these items to an error, and makes its refusals' errors from the other's
+  -- as the other, but that it adds such items to an error, and what is made of the errors of its refusals
   abbrev pub saying : Meaning P T R E A S → (List (ErrorItem T R) → Type 0) → (Refusing P T E → Refusing P T E) → Meaning P T R E A S
   saying m adds f = record { whole = m.whole; rest = m.rest; lost = m.lost; keeps = m.keeps; puts_back = m.puts_back; heapless = m.heapless; adds = adds; refuses = f m.refuses; refuses_from = λ s. f (m.refuses_from s) }
 
@@ -65,7 +65,7 @@ pub part_refusals_is_monotone : {P T E : Type 0} → IsMonotone (part_refusals {
 part_refusals_is_monotone = record { into = λ r r' g. g }
 
 module _ {T R P E : Type 0} (s : Observers T R P E) where
-  -- the error of the part's committed refusal, with the item added
+  -- the error of the part's committed refusal, to which the item was added
   pub record RefusesWithItem (i : ErrorItem T R) (part : Refusing P T E) (v w : View P T) (e : E) : Type 0 where
     pub own : E
     pub refused : part v w true own
@@ -76,7 +76,7 @@ module _ {T R P E : Type 0} (s : Observers T R P E) where
   refuses_with_item i part v w true e = RefusesWithItem i part v w e
   refuses_with_item i part v w false e = part v w false e
 
-  -- the error of the part's refusal, committed or not, without the expected items
+  -- the error of the part's refusal, committed or not, which no longer says what was expected
   pub record RefusesWithoutExpected (part : Refusing P T E) (v w : View P T) (committed : Bool) (e : E) : Type 0 where
     pub own : E
     pub refused : part v w committed own
@@ -93,7 +93,7 @@ module _ {T R P E : Type 0} (s : Observers T R P E) where
   refuses_without_expected_is_monotone = record { into = λ r r' g v w k e x. record { own = x.own; refused = g v w k x.own x.refused; cleared = x.cleared } }
 
   module _ (is_open : Bool) {V : Type 0} where
-    -- a committed refusal gets more items; every other result is unchanged
+    -- a committed refusal is made to say more; every other answer stays
     abbrev pub adds_on_refusal : (List (ErrorItem T R) → Type 0) → ParseResult V E → ParseResult V E → Type 0
     adds_on_refusal says (CommitErr e) (CommitErr e') = (IsRefusal is_open (s.kind e) × AddsItems s (Unit {0}) says e e') ⊎ ((IsRefusal is_open (s.kind e) → ⊥) × (e' ≡ e))
     adds_on_refusal says (CommitErr e) y = ⊥
@@ -104,7 +104,7 @@ module _ {T R P E : Type 0} (s : Observers T R P E) where
     pub record AddsOnRefusal (says : List (ErrorItem T R) → Type 0) (x y : ParseResult V E) : Type 0 where
       pub is : adds_on_refusal says x y
 
-    -- a refusal, committed or not, loses its expected items; every other result is unchanged
+    -- a refusal, committed or not, no longer says what was expected; every other answer stays
     abbrev pub clears_expected : ParseResult V E → ParseResult V E → Type 0
     clears_expected (CommitErr e) (CommitErr e') = (IsRefusal is_open (s.kind e) × Cleared s e e') ⊎ ((IsRefusal is_open (s.kind e) → ⊥) × (e' ≡ e))
     clears_expected (PeekErr t) (PeekErr t') = Cleared s t.error t'.error

@@ -1,4 +1,4 @@
--- errors at spans
+-- errors that are made to stand at a span
 use Rattle.std.specs.Prelude.{ℕ, ◌≡◌, ◌⊎◌, Bool, Option, Some, None}
 use Rattle.std.specs.declared.cmp.Ordering.{Ordering}
 use Rattle.std.specs.declared.cmp.Ordering.TheVariants.{Equal}
@@ -16,20 +16,20 @@ spanned_of p = record { 0 = p }
 abbrev pub spanned_part : {Q : Type 0} → Spanned Q → Q
 spanned_part p = p.0
 
--- a span that begins and ends at one position, by their order
+-- a span that begins and ends at one position, as their order says
 abbrev pub AtOne : {Q : Type 0} → (Q → Q → Ordering) → Option (Span Q) → Type 0
 AtOne cmp None = ⊥
 AtOne cmp (Some s) = cmp s.start s.end ≡ Equal
 
 module _ {T R Q E : Type 0} (cmp : Q → Q → Ordering) (s : Observers T R (Span Q) E) where
-  -- an error at one position gets the span; any other is unchanged
+  -- it is made to stand at the span where it stands at one position; else it stays as it is
   abbrev pub spans : Span Q → E → E → Type 0
   spans span old new = (AtOne cmp (s.position old) × MovesPosition s span old new) ⊎ ((AtOne cmp (s.position old) → ⊥) × (new ≡ old))
 
   pub record Spans (span : Span Q) (old new : E) : Type 0 where
     pub is : spans span old new
 
-  -- so do the errors of a result; its value is unchanged
+  -- so are the errors of an answer; its value stays
   abbrev pub spans_answer : {V : Type 0} → Span Q → ParseResult V E → ParseResult V E → Type 0
   spans_answer span (CommitErr e) (CommitErr e') = Spans span e e'
   spans_answer span (PeekErr t) (PeekErr t') = Spans span t.error t'.error
@@ -42,7 +42,7 @@ module _ {T R Q E : Type 0} (cmp : Q → Q → Ordering) (s : Observers T R (Spa
     pub is : spans_answer span x y
 
   module _ (step : Span Q → T → Span Q) where
-    -- the error of the part's refusal, at the span from where the call began to where the part left the stream, some tokens later
+    -- the error of the part's refusal, at the span from where the call began to where the stream stood when the part refused, some tokens later
     pub record SpansReason (part : Refusing (Span Q) T E) (v w : View (Span Q) T) (committed : Bool) (e : E) : Type 0 where
       pub own : E
       pub refused : part v w committed own
@@ -57,7 +57,7 @@ module _ {T R Q E : Type 0} (cmp : Q → Q → Ordering) (s : Observers T R (Spa
     spans_same part part' h v w k e = (spans_into part part' (λ v w k e. (h v w k e).0) v w k e, spans_into part' part (λ v w k e. (h v w k e).1) v w k e)
 
     module _ {A S : Type 0} where
-      -- the part's meaning, with the errors of its refusals at spans
+      -- what the part means, with the errors of its refusals at spans
       abbrev pub spanned : Meaning (Span Q) T R E A S → Meaning (Span Q) T R E A S
       spanned m = record { whole = m.whole; rest = m.rest; lost = m.lost; keeps = m.keeps; puts_back = m.puts_back; heapless = m.heapless; adds = m.adds; refuses = SpansReason m.refuses; refuses_from = λ s. SpansReason (m.refuses_from s) }
 

@@ -8,7 +8,7 @@ use Rattle.combine_base.specs.Error.Errors.{Observers, IsAt}
 use Rattle.combine_base.specs.Stream.View.{View, after_all, advanced}
 use Rattle.combine_error.specs.declared.span.Span.{Span}
 
--- the span that begins and ends at a position
+-- the span that begins and ends there
 abbrev pub at : {P : Type 0} → P → Span P
 at p = record { start = p; end = p }
 
@@ -19,13 +19,13 @@ span_step step s t = at (step s.end t)
 abbrev pub spanned_view : {P T : Type 0} → View P T → View (Span P) T
 spanned_view v = record { position = at v.position; unread = v.unread; is_open = v.is_open }
 
--- the view of a stream of spans whose stream inside has such a view
+-- what is seen where the stream inside sees such a view
 pub record IsSpannedView {P T : Type 0} (m : View P T → Type 0) (v : View (Span P) T) : Type 0 where
   pub inner : View P T
   pub stands : m inner
   pub is : v ≡ spanned_view inner
 
--- the checkpoints of the stream inside
+-- the places of the stream inside
 abbrev pub span_marks : {P T C : Type 0} → (C → View P T → Type 0) → C → View (Span P) T → Type 0
 span_marks m c = IsSpannedView (m c)
 
@@ -41,7 +41,7 @@ same_inner : {P T : Type 0} (a b : View P T) → spanned_view a ≡ spanned_view
 same_inner {P} {T} a b e = ap (λ (x : View (Span P) T). record { position = x.position.end; unread = x.unread; is_open = x.is_open }) e
 
 module _ {P T C : Type 0} where
-  -- a checkpoint is at the same view as long as the checkpoints of the stream inside are
+  -- as long as the places stay, what stood stands
   pub span_lasts : (m n : C → View P T → Type 0) (k l : View P T → Type 0) → ((u : View P T) → ((c : C) (w : View P T) → m c w → n c w) → k u → l u) → (v : View (Span P) T) → ((c : C) (u : View (Span P) T) → span_marks m c u → span_marks n c u) → IsSpannedView k v → IsSpannedView l v
   span_lasts m n k l g v h p = record { inner = p.inner; stands = g p.inner by_place p.stands; is = p.is }
     where
@@ -50,7 +50,7 @@ module _ {P T C : Type 0} where
           let j = h c (spanned_view w) (record { inner = w; stands = i; is = refl }) in
           subst (n c) (sym (same_inner w j.inner j.is)) j.stands
 
--- the same error, at a span
+-- the same error, at that span
 pub record AtSpan {T R P E F : Type 0} (s : Observers T R P E) (t : Observers T R (Span P) F) (place : Span P) (old : E) (new : F) : Type 0 where
   pub kind : t.kind new ≡ s.kind old
   pub position : IsAt place (t.position new)

@@ -41,7 +41,7 @@ module _ {P T V : Type 0} where
     within = λ v a n k p. absurd p;
   }
 
--- its error is made where it is called, without items
+-- its error is made where it is called, and says nothing by itself
 abbrev pub refuses_here : {T R P E : Type 0} → Observers T R P E → P → Bool → E → Type 0
 refuses_here s place true e = ⊥
 refuses_here s place false e = New s kinds.Refused place e
@@ -52,7 +52,7 @@ pub record RefusesThere {T R P E : Type 0} (s : Observers T R P E) (v w : View P
   pub is : refuses_here s v.position committed e
 
 module _ {P T R E V S : Type 0} (s : Observers T R P E) (adds : List (ErrorItem T R) → Type 0) where
-  -- it allocates nothing, and never needs more
+  -- it takes no memory, and never asks for more
   abbrev pub refuses_all : Meaning P T R E V S
   refuses_all = stateless refused_there (Unit {0}) (Unit {0}) adds (RefusesThere s)
 

@@ -1,4 +1,4 @@
-//! Errors that keep their items, and streams with such errors.
+//! Errors that keep what they are told, and streams whose parsers are refused with them.
 ghost use Rattle.std.specs.Prelude.{◌≡◌, ◌-◌, ◌<◌, not, ◌∷◌, [], true, length, map};
 ghost use Rattle.std.specs.List.{list_any};
 ghost use Rattle.combine_base.specs.Error.Errors.{Only, AddsItems};
@@ -16,37 +16,37 @@ mod stream;
 pub use driver::EasyParser;
 pub use stream::{SliceStream, Stream, TextStream};
 
-/// An item of an error.
+/// What an error says: an item.
 ///
-/// combine has a fourth, `Other`, for errors of other types.
+/// The crate has a fourth, `Other`, for errors of other types.
 #[derive(Debug, PartialEq, Drop)]
 pub enum Error<T, R> {
-    /// This was unexpected.
+    /// That this was not expected.
     Unexpected(Info<T, R>),
-    /// This was expected.
+    /// That this was expected.
     Expected(Info<T, R>),
-    /// A message.
+    /// That this is to be said.
     Message(Info<T, R>),
 }
 
-/// An error with its position, its kind, and its items in the order in which they were added.
+/// An error with its position, its kind, and the items that were added to it, in order.
 ///
-/// No two items are equal if all were added by calls of `ParseError`.
+/// No two of them are equal where all were added by the calls of `ParseError`.
 ///
 /// # Differences from combine
 ///
-/// Two texts are equal only if both are fixed or both are owned. In combine equal texts are equal however they are held, and an error has no kind.
+/// Two texts are equal only if both are fixed or both are owned. In the crate they are, however they are held, and an error has no kind.
 #[derive(Debug, PartialEq, Drop)]
 pub struct Errors<T, R, P> {
-    /// The position of the error.
+    /// Where it stands.
     pub position: P,
-    /// The items, the first added first.
+    /// The items, the first that was added first.
     pub errors: Vec<Error<T, R>>,
-    /// The reason for the error: `Memory` if there was no memory for an item.
+    /// Why there is no value: `Memory` if an item found no memory.
     pub kind: Kind,
 }
 
-// Returns whether both hold the same token, range, text or count, in the same way.
+// Returns whether both speak of the same.
 fn is_about_same<T: PartialEq, R: PartialEq>(this: &Info<T, R>, other: &Info<T, R>) -> bool
     ensures { result ≡ about_same T.eq R.eq (shown this.now) (shown other.now) }
 {
@@ -101,7 +101,7 @@ fn is_expected<T, R>(item: &Error<T, R>) -> bool
     matches!(item, Error::Expected(_))
 }
 
-// Returns the item with this role.
+// Returns the item that says this.
 fn item_of<T, R>(role: Role, info: Info<T, R>) -> Error<T, R>
     ensures { said result ≡ in_role role (shown info) }
 {
@@ -112,7 +112,7 @@ fn item_of<T, R>(role: Role, info: Info<T, R>) -> Error<T, R>
     }
 }
 
-// Returns whether one of `errors` is equal to the item.
+// Returns whether an equal item is among those.
 fn is_there<T: PartialEq, R: PartialEq>(item: &Error<T, R>, errors: &[Error<T, R>]) -> bool
     ensures { result ≡ list_any (λ j. item_same T.eq R.eq (said j) (said item.now)) errors.now }
 {
@@ -124,7 +124,7 @@ fn is_there<T: PartialEq, R: PartialEq>(item: &Error<T, R>, errors: &[Error<T, R
     false
 }
 
-// Drops the item at an index if it is an expected one, and returns the index of the next item.
+// Drops the item at that place if it says what was expected, and returns where the next one then stands.
 fn drop_if_expected<T, R>(errors: &mut Vec<Error<T, R>>, at: usize) -> usize
 where
     T: Drop,
@@ -140,7 +140,7 @@ where
     at + 1
 }
 
-/// Every item's kind is `Refused`, even that of the end of input.
+/// The kind of an item is `Refused`, also that of the end of input.
 impl<T: Copy, R: Copy> StreamError<T, R> for Error<T, R> {
     ghost use Rattle.combine_base.specs.Error.Errors.{if_kept};
     ghost use Rattle.combine_base.specs.Error.Items as items;
@@ -191,7 +191,7 @@ impl<T: Copy, R: Copy> StreamError<T, R> for Error<T, R> {
 }
 
 impl<T: Copy + PartialEq, R: Copy + PartialEq, P: Ord + Copy> Errors<T, R, P> {
-    // Adds an item at the end unless an equal one is there.
+    // Puts the item at the end unless an equal one is there.
     fn put(&mut self, item: Error<T, R>)
         ensures { AddsItems (listed_errors T.eq R.eq) (Unit {0}) (Only (said item)) self.old self.new }
     {
@@ -253,7 +253,6 @@ impl<T: Copy + PartialEq, R: Copy + PartialEq, P: Ord + Copy> ParseError<T, R, P
 
     fn clear_expected_after(&mut self, kept: usize) {
         let mut at = kept;
-        // The label names the loop's invariant.
         'items: while at < self.errors.len() {
             at = drop_if_expected(&mut self.errors, at);
         }

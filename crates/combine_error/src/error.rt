@@ -1,4 +1,4 @@
-//! `message`, `expected` and `silent`, which change the items of another parser's errors.
+//! Parsers that shape what the errors of another parser say.
 ghost use Rattle.std.specs.Prelude.{◌≡◌};
 ghost use Rattle.combine_error.specs.ErrorParsers.{expected_of, message_of, silent_of};
 
@@ -8,17 +8,17 @@ use combine_base::error::Info;
 pub use types::{add_message_to_refusal, clear_expected_of_refusal};
 use types::{Expected, Message, Silent};
 
-/// Parses as `parser`, and adds a message to its refusals.
+/// Parses as `parser`, but its refusals also say this.
 ///
 /// # Errors
 ///
-/// - The message is added to the error of a committed refusal. Where a peeked refusal is explained, it is added after the items of `parser`.
-/// - Faults and need of more are unchanged.
-/// - If there is no memory for the message, that is the committed fault `Memory`.
+/// - The message is added to the error of a committed refusal, and where a peeked refusal is explained after what `parser` adds.
+/// - Faults and need of more stay as they are.
+/// - A message that finds no memory makes it the committed fault `Memory`.
 ///
 /// # Differences from combine
 ///
-/// combine adds the message to faults and need of more too.
+/// The crate adds the message to faults and need of more too.
 #[inline]
 pub fn message<P, I, T, R>(parser: P, info: I) -> Message<P, Info<T, R>>
 where
@@ -31,13 +31,13 @@ where
     }
 }
 
-/// Parses as `parser`, with one expected item in place of its own where a peeked refusal is explained.
+/// Parses as `parser`, but where a peeked refusal is explained it says that this was expected, in place of what `parser` says was expected.
 ///
 /// # Errors
 ///
-/// - The other items of `parser` stay, and so do all items that the error had before.
-/// - A committed refusal, a fault and need of more are unchanged.
-/// - If there is no memory for an item, that is the committed fault `Memory`.
+/// - What else `parser` adds stays, and so does all that the error said before.
+/// - A committed refusal, a fault and need of more stay as they are.
+/// - An item that finds no memory makes it the committed fault `Memory`.
 ///
 /// # Examples
 ///
@@ -63,15 +63,15 @@ where
     }
 }
 
-/// Parses as `parser`, and removes the expected items from its refusals, committed or peeked.
+/// Parses as `parser`, but its refusals, committed or peeked, no longer say what was expected.
 ///
 /// # Errors
 ///
-/// Nothing is added where a peeked refusal is explained. The other items of the errors stay. Faults and need of more are unchanged.
+/// Nothing is added where a peeked refusal is explained. What else the errors say stays. Faults and need of more stay as they are.
 ///
 /// # Differences from combine
 ///
-/// combine clears faults and need of more too.
+/// The crate clears faults and need of more too.
 ///
 /// # Examples
 ///

@@ -1,4 +1,4 @@
-//! Errors with readable items, streams with them or with spans, and parsers that change errors.
+//! Errors that people can read, and the parsers that change them.
 #![tactic(auto)]
 
 pub mod easy;

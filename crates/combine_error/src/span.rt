@@ -10,27 +10,27 @@ use combine_base::stream::{self, Failures, Kind, Positioned, ResetStream, Stream
 use combine_stream::Unfailing;
 use combine_stream::range::{Range, RangeStream};
 
-/// A part of the input, from one position to another.
+/// A part of the input, from a position to another.
 ///
-/// Spans are ordered by `start`, then by `end`.
+/// The order is that of `start`, and then that of `end`.
 #[derive(Clone, Copy, Debug, PartialEq, Eq, PartialOrd, Ord)]
 pub struct Span<P> {
-    /// The position where it begins.
+    /// Where it begins.
     pub start: P,
-    /// The position where it ends.
+    /// Where it ends.
     pub end: P,
 }
 
-/// Errors that can be at a span.
+/// The errors that can stand at a span.
 ///
-/// In combine they are those that convert into an error at any other position.
+/// In the crate they are those that turn into an error at any other position.
 pub trait SpannedError<T, R, P: Ord + Copy>: ParseError<T, R, P> {
-    /// The error's type at a span.
+    /// The error at a span.
     type Spanned: DetailedError<T, R, Span<P>>;
 
-    /// Returns the same error, at a span.
+    /// Makes the same error, at that span.
     ///
-    /// The kind and the items are unchanged.
+    /// The kind and the items stay.
     fn at_span(self, span: Span<P>) -> Self::Spanned
         ensures { AtSpan Self.observers Self.Spanned.observers span self result };
 }
@@ -67,7 +67,7 @@ impl<T: Copy + PartialEq, R: Copy + PartialEq, P: Ord + Copy> SpannedError<T, R,
     }
 }
 
-/// A stream whose position is the span that begins and ends at the position of the stream inside.
+/// A stream whose position is the span that begins and ends where the stream inside stands.
 ///
 /// Its errors are those of the stream inside, at spans.
 #[derive(Drop)]

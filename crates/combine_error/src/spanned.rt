@@ -1,4 +1,4 @@
-//! `spanned`, which sets the span of another parser's errors.
+//! A parser whose refusals stand at the span that it read.
 ghost use Rattle.std.specs.Prelude.{◌≡◌};
 ghost use Rattle.combine_error.specs.SpannedErrors.{spanned_of};
 
@@ -6,13 +6,13 @@ pub mod types;
 
 use types::Spanned;
 
-/// Parses as `parser`, with its refusals' errors at the span that it read.
+/// Parses as `parser`, with the errors of its refusals at the span that it read.
 ///
-/// The stream's positions are spans, as in a `span::Stream`.
+/// The stream's positions are spans, as those of a `span::Stream`.
 ///
 /// # Errors
 ///
-/// If the span of a refusal's error begins and ends at one position, it becomes the span from where this call began to where it left the stream. A longer span, which an inner `spanned` has set, stays. The items and the kind stay. An error that keeps no position is unchanged.
+/// The error of a refusal, where its span begins and ends at one position, is made to stand at the span from where this call began to where it left the stream. A span that an inner `spanned` has set stays. What an error says stays, and so does its kind. An error that keeps no position is left as it is.
 ///
 /// # Examples
 ///

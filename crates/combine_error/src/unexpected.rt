@@ -1,4 +1,4 @@
-//! `unexpected` and `unexpected_any`, which always refuse.
+//! Parsers that always refuse.
 ghost use Rattle.std.specs.Prelude.{◌≡◌};
 ghost use Rattle.combine_error.specs.Unexpected.{unexpected_of};
 
@@ -11,11 +11,11 @@ use types::Unexpected;
 
 /// Refuses everywhere, peeked, and reads nothing.
 ///
-/// The type of its value is `()`.
+/// Its value would be `()`.
 ///
 /// # Errors
 ///
-/// They have the given item as unexpected.
+/// They say that this was not expected.
 ///
 /// # Examples
 ///
@@ -34,7 +34,7 @@ pub fn unexpected<Input: StreamOnce, S: Into<Info<Input::Token, Input::Range>>>(
     unexpected_any(message)
 }
 
-/// Refuses as `unexpected` does, with any type of value.
+/// Refuses as `unexpected` does, with whatever value the place asks for.
 pub fn unexpected_any<Input: StreamOnce, S: Into<Info<Input::Token, Input::Range>>, V>(
     message: S,
 ) -> Unexpected<Input, V, Info<Input::Token, Input::Range>>

@@ -10,7 +10,7 @@ use Rattle.combine_choice.specs.Choice.Optional.{is_some, nothing_taken}
 use Rattle.combine_facts.specs.Reads.{Reads, either, maybe}
 
 module _ {P T A : Type 0} where
-  -- an alternative, and the meaning of the later ones
+  -- an alternative, and what the later ones mean
   pub either_reads : {r q : Reading P T A} {says tells : List T → A → Type 0} → Reads r says → Reads q tells → Reads (OrElse r q) (either says tells)
   either_reads {r} {q} {says} {tells} h g = record { one = at }
     where

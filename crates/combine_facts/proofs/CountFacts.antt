@@ -1,4 +1,4 @@
--- the number of turns
+-- how many turns there are
 use Rattle.std.specs.Prelude.{ℕ, suc, ◌≡◌, ◌+◌, ◌-◌, ◌≤◌, ◌<◌, Bool, true, false, not, min, nat_lt, if◌then◌else◌, None, Some, refl}
 use Rattle.std.proofs.Common.{arith, ltb-false, ltb-true}
 use Rattle.combine_base.specs.Stream.View.{View}
@@ -12,7 +12,7 @@ use Rattle.combine_repeat.specs.declared.bounds.Bounds.TheVariants.{Unbounded, O
 use Rattle.combine_repeat.specs.declared.bounds.TurnIndex.{TurnIndex}
 use Rattle.combine_facts.specs.TurnReads.{so_many}
 
--- the converse of a negated test
+-- what a test says that is turned round
 below : (n m : ℕ) → not (nat_lt n m) ≡ false → n < m
 below n m e = ltb-true n m (is_true (nat_lt n m) e)
   where
@@ -27,7 +27,7 @@ reached n m e = ltb-false n m (is_false (nat_lt n m) e)
     is_false true e = absurd (cc)
     is_false false e = cc
 
--- from so many turns on the repetition may end
+-- from so many turns on the rest may be accepted
 abbrev pub fewest : Bounds → ℕ
 fewest Unbounded = 0
 fewest (OwnFirst least None) = least
@@ -73,7 +73,7 @@ none_within (OwnFirst least None) = tt
 none_within (OwnFirst least (Some most)) = omega arith
 none_within (Counted least most) = omega arith
 
--- if there are fewer than there may be, one more is within the bounds
+-- where there aren't as many as there may be, one more is within
 pub next_fits : (b : Bounds) (g : TurnIndex) → full_at b g ≡ false → within_bounds b (turn_after b g).number
 next_fits Unbounded g e = tt
 next_fits (OwnFirst least None) g e = tt
@@ -108,7 +108,7 @@ module _ {P T A : Type 0} (step : P → T → P) (b : Bounds) (turn : TurnIndex 
       by_case false false e = absurd (cc)
   judged_so Undecided e = absurd (cc)
 
-  -- where the turns stop accepted no more is taken, and there are enough
+  -- where the turns stop accepted nothing is taken any more, and there are enough
   pub stops_with_enough : (running : Reading P T A) (v : View P T) → StopsHere step (bounded b no_value_ends) turn (Accepted tt n k) running g v (full_at b g) → (n ≡ 0) × (fewest b ≤ g.number)
   stops_with_enough running v = by_full (full_at b g) refl
     where

@@ -1,4 +1,4 @@
--- results of drivers: all tokens begin with those that are related to the value
+-- what drivers answer: all tokens begin with those that say the value
 use Rattle.std.specs.Prelude.{ℕ, ◌≡◌, List, [], ◌++◌, Bool, true, false, length, take, drop, Option, Result, Ok, Err, IfOk, refl}
 use Rattle.std.proofs.Common.{ap, sym, subst, ◌∙◌}
 use Rattle.std.proofs.lemmas.List.{append_assoc, length-take-le, take-append-drop}
@@ -22,7 +22,7 @@ use Rattle.combine_session.specs.declared.session.SessionError.{SessionError}
 use Rattle.combine_facts.specs.DriverReads.{Fed, IfAccepted}
 use Rattle.combine_facts.specs.Reads.{Reads}
 
--- an outcome on a view: its unread tokens begin with some that are related to the value
+-- an outcome on a view: its unread tokens begin with so many that say the value
 pub outcome_says : {P T A : Type 0} {r : Reading P T A} {says : List T → A → Type 0} → Reads r says → (v : View P T) (a : A) (n : ℕ) (k : Bool) → r v (Accepted a n k) → (xs : List T) × (behind : List T) × says xs a × (v.unread ≡ xs ++ behind) × (length xs ≡ n)
 outcome_says h v a n k w = let i = h.one v a n k w in (take n v.unread, drop n v.unread, i.1, sym (take-append-drop n v.unread), length-take-le n v.unread i.0)
 
@@ -39,12 +39,12 @@ module _ {P T R A S E : Type 0} {w : World P T S E} {m : Meaning P T R E A S} wh
       let i = h.one old a x.1.count x.0 x.1.meant in
       (take x.1.count old.unread, i.1, sym (ap (λ v. take x.1.count old.unread ++ v.unread) x.1.taken.rest ∙ take-append-drop x.1.count old.unread))
 
-  -- `parse`: exactly those are taken, and any fact that follows holds of its result
+  -- `parse`: exactly those are taken, and whatever follows from that holds of its answer
   pub parse_reads : {s : Observers T R P E} {I : Type 0} {old : View P T} {new : A × I → View P T} {before : Failures} {after : A × I → Failures} {says : List T → A → Type 0} {holds : A × I → Type 0} (result : Result (A × I) E) → Reads m.whole says → ((p : A × I) → result ≡ Ok p → StartResults w m s old (new p) before (after p) (Ok p.0)) → ((p : A × I) (xs : List T) → says xs p.0 → old.unread ≡ xs ++ (new p).unread → holds p) → IfOk result holds
   parse_reads (Ok p) h z f = let x = start_reads h (z p refl) in f p x.0 x.1 x.2
   parse_reads (Err e) h z f = tt
 
--- `parse_pieces`: the pieces begin so, and any fact that follows holds of an acceptance
+-- `parse_pieces`: the pieces begin so, and whatever follows from that holds of an acceptance
 pub pieces_read : {T A : Type 0} {r : Reading ℕ T A} {says : List T → A → Type 0} {heapless : Type 0} {pieces : List (List T)} {result : Result (Answer A UnexpectedParse) SessionError} {holds : A → ℕ → Type 0} → Reads r says → ParsesPieces r heapless pieces result → ((a : A) (n : ℕ) (xs behind : List T) → says xs a → concatenated pieces ≡ xs ++ behind → length xs ≡ n → holds a n) → IfAccepted result holds
 pieces_read {T} {A} {r} {says} {heapless} {pieces} {result} {holds} h z f = by_case result z.is
   where
@@ -54,7 +54,7 @@ pieces_read {T} {A} {r} {says} {heapless} {pieces} {result} {holds} h z f = by_c
     by_case (Ok (answers.Refused e n k)) w = tt
     by_case (Err e) w = tt
 
--- a session: the tokens fed, from its beginning to the piece that decides
+-- a session: what it was fed, from its beginning to the piece that decides
 module _ {Q T R E A S : Type 0} {meaning : Q → Meaning ℕ T R E A S} {valid : S → Type 0} where
   pub begun_fed : {determined : Q → Type 0} {most : Option ℕ} {p : Q} {c : Course Q T S} → BeginsSession meaning valid determined most p c → Fed (meaning p).whole (left_of_session meaning c) []
   begun_fed h = record { within = λ x m o. (h.left x m o).0 }

@@ -1,4 +1,4 @@
--- all definitions and lemmas for callers, from one place
+-- all words and lemmas for callers, from one place
 pub use Rattle.combine_facts.specs.DriverReads.{Fed, IfAccepted}
 pub use Rattle.combine_facts.specs.TurnReads.{all_where, each, first_and_each, gathers, listed, none_or_more, one_or_more, passed, so_many}
 pub use Rattle.combine_facts.specs.PartReads.{eight, first_of, five, four, middle_of, second_of, seven, six, three, two}

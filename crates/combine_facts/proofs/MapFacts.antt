@@ -1,4 +1,4 @@
--- values changed by a function
+-- values that are changed
 use Rattle.std.specs.Prelude.{ℕ, ◌≡◌, ◌+◌, ◌≤◌, List, Bool, length, take}
 use Rattle.std.proofs.Common.{arith, subst}
 use Rattle.combine_base.specs.Stream.View.{View}
@@ -10,11 +10,11 @@ use Rattle.combine_base.specs.Sequence.Readings.{following}
 use Rattle.combine_facts.specs.Reads.{Reads, changed}
 
 module _ {P T A B : Type 0} {r : Reading P T A} {says : List T → A → Type 0} where
-  -- by a function, which is given by its relation
+  -- by a function, which is known by its relation
   pub mapped_reads : (f : A → B → Type 0) → Reads r says → Reads (mapped_reading r f) (changed says f)
   mapped_reads f h = record { one = λ v b n k w. let i = h.one v w.0 n k w.1 in (i.0, (w.0, i.1, w.2)) }
 
-  -- the values of a first part
+  -- the values of a part that nothing is before
   pub following_reads : (c : Bool) (f : A → B) → Reads r says → Reads (following c f r) (changed says (λ a b. b ≡ f a))
   following_reads c f h = record { one = λ v b n k w. at v b n k w.0 w.1 w.2 }
     where

@@ -14,7 +14,7 @@ use Rattle.combine_facts.specs.Reads.{Reads}
 use Rattle.combine_facts.proofs.MapFacts.{following_reads, mapped_reads}
 use Rattle.combine_facts.proofs.TokenFacts.{reads_as}
 
--- parts, and one more, whose value is joined to theirs by put; back and last take it apart again
+-- parts, and one more, whose value is put to theirs; back and last take it apart again
 module _ {P T A B C : Type 0} (step : P → T → P) (put : A → B → C) (back : C → A) (last : C → B) (e : (a : A) (b : B) → (back (put a b) ≡ a) × (last (put a b) ≡ b)) {r : Reading P T A} {q : Reading P T B} {says : List T → A → Type 0} {tells : List T → B → Type 0} (h : Reads r says) (g : Reads q tells) where
   abbrev both_said : View P T → C → ℕ → Type 0
   both_said v c n = (n ≤ length v.unread) × more back last says tells (take n v.unread) c
@@ -40,7 +40,7 @@ module _ {P T A B C : Type 0} (step : P → T → P) (put : A → B → C) (back
   pub one_more_reads : Reads (sequel step put r (λ _. q)) (more back last says tells)
   one_more_reads = record { one = λ v c n k w. both v c n k w.0 w.1 w.2 }
 
--- one part, with nothing before it
+-- one part: nothing is before it
 one_reads : {P T A : Type 0} {r : Reading P T A} {p : List T → A → Type 0} → Reads r p → Reads (following false (push_0 tt) r) (λ xs t. p xs t.0)
 one_reads {p} h = reads_as (λ xs t w. subst (p xs) (sym (ap (λ t. t.0) w.2)) w.1) (following_reads false (push_0 tt) h)
 

@@ -1,4 +1,4 @@
--- turns, and the collection of their values
+-- turns, and what is gathered of their values
 use Rattle.std.specs.Prelude.{ℕ, ◌≡◌, ◌+◌, ◌≤◌, List, [], ◌∷◌, ◌++◌, Bool, true, false, ◌||◌, length, take, drop, refl, All}
 use Rattle.std.proofs.Common.{arith, ap, sym, subst, ◌∙◌, take-add, length-drop}
 use Rattle.std.proofs.lemmas.List.{append-nil, append_assoc}
@@ -25,7 +25,7 @@ same_each says xs [] w = w
 same_each says xs (a ∷ bs) w = w
 
 module _ {P T A : Type 0} (step : P → T → P) (b : Bounds) {later : Reading P T A} {says : List T → A → Type 0} (h : Reads later says) where
-  -- turns from a place on, up to one where the repetition ends
+  -- turns from a place on, up to one where they stop accepted
   abbrev said_from : (List T → A → Type 0) → ℕ → List (Block A) → TurnIndex → View P T → Type 0
   said_from first n bs g v = (n ≡ 0) × (taken bs ≤ length v.unread) × first_and_each first says (take (taken bs) v.unread) (values bs) × (fewest b ≤ g.number + length (values bs)) × (within_bounds b g.number → within_bounds b (g.number + length (values bs)))
 
@@ -42,7 +42,7 @@ module _ {P T A : Type 0} (step : P → T → P) (b : Bounds) {later : Reading P
       let enough = more.3 in
       (more.0, omega (arith, length-drop x.count v.unread), (take x.count v.unread, take (taken bs) (drop x.count v.unread), take-add x.count (taken bs) v.unread, one.1, same_each says (take (taken bs) (drop x.count v.unread)) (values bs) more.2), omega arith, λ z. next_within b g (length (values bs)) w.0 (more.4 (next_fits b g w.0)))
 
-  -- turns, of which the first may be another, and any gathering
+  -- turns, of which the first may be another, and whatever is gathered
   pub turns_reads : {V : Type 0} (c : Collecting A V) {begins : Reading P T A} {first : List T → A → Type 0} → Reads begins first → Reads (TurnsOutcome step (bounded b no_value_ends) c (λ _. later) begins (none_yet c.none)) (gathers b c first says)
   turns_reads {V} c {begins} {first} i = record { one = λ v a n k w. at v a n k w.blocks w.last w.held w.divided w.joined w.folded w.collected }
     where
@@ -74,7 +74,7 @@ module _ {P T A : Type 0} (step : P → T → P) (b : Bounds) {later : Reading P
       appends before [] all w = sym w ∙ sym (append-nil before)
       appends before (b ∷ bs) all w = appends w.0 bs all w.2 ∙ ap (λ ds. ds ++ bs) w.1 ∙ append_assoc before (b ∷ []) bs
 
--- tokens for which a function returns true, each the value of its turn
+-- tokens of which a function holds, each the value of its turn
 pub each_where : {T : Type 0} (f : T → Bool) (xs bs : List T) → each (one_where f) xs bs → (xs ≡ bs) × All (λ a. f a ≡ true) bs
 each_where f xs [] w = (w, All-nil (λ a. f a ≡ true))
 each_where f xs (a ∷ bs) w =

@@ -1,4 +1,4 @@
--- relations of the tokens of several parts to their values: the tokens of each part follow those of the last
+-- what the tokens of several parts say of their values: those of each part stand one behind another
 use Rattle.std.specs.Prelude.{◌≡◌, List, ◌++◌}
 
 -- parts, and one more: the value has one for the parts and one for the last

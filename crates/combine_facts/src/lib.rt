@@ -1,2 +1,2 @@
-//! Relations of the tokens that a parser took to its value: lemmas for callers, and no code. Definitions are in `specs/`, lemmas in `proofs/`.
+//! What the tokens that a parser took say of its value: lemmas for callers, and no code. The words stand in `specs/`, the lemmas in `proofs/`.
 #![tactic(auto)]

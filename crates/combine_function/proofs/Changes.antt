@@ -22,7 +22,7 @@ use Rattle.combine_base.specs.declared.error.result.ParseResult.{ParseResult}
 use Rattle.combine_base.specs.declared.error.result.ParseResult.TheVariants.{CommitOk, PeekOk, CommitErr, PeekErr}
 use Rattle.combine_function.specs.Changes.{Changes, MadeSaying, RefusesValue, changed_meaning, changed_reading, spares}
 
--- parsers that mean the same have the same values
+-- what means the same gives the same values
 module _ {P T R E A S : Type 0} (valid : S → Type 0) (good : A → Type 0) where
   into_same : (m m' : Meaning P T R E A S) → MeansSame m m' → GivesOnly valid m good → GivesOnly valid m' good
   into_same m m' e h = record {
@@ -39,7 +39,7 @@ module _ {P T R E A S : Type 0} (valid : S → Type 0) (good : A → Type 0) whe
   pub gives_same : (m m' : Meaning P T R E A S) → MeansSame m m' → GivesOnly valid m good ↔ GivesOnly valid m' good
   gives_same m m' e = (into_same m m' e, from_same m m' e)
 
--- a resumed reading is changed alike
+-- what is resumed is changed alike
 module _ {P T A B : Type 0} (step : P → T → P) (gives : P → A → B → Type 0) (denies : A → Type 0) (r c : Reading P T A) (n : ℕ) (old new : View P T) (t : Takes step n old new) (h : Resumes r c n old new) where
   same_place : (x : List T) (m : Bool) (k : ℕ) → (advanced step k (extended x m new)).position ≡ (advanced step (n + k) (extended x m old)).position
   same_place x m k =
@@ -172,7 +172,7 @@ module _ {P T R A B S E : Type 0} (s : Observers T R P E) (step : P → T → P)
       by_case (inl p) = record { is = rw (q.is.0, p.0) (denied w valid gives denies starves tells m r new later e f a false h.is p.1) }
       by_case (inr p) = absurd (q.is.1 p.0)
 
--- a value is refused with an error made with an item, or there was no memory for the item
+-- a value is refused with an error that was made to say something, or the item found no memory
 pub says_made : {T R P E B : Type 0} (s : Observers T R P E) (gives : B → Type 0) (denies starves : Type 0) (place : P) (own e : E) (said says : List (ErrorItem T R) → Type 0) → ((is : List (ErrorItem T R)) → said is → says is) → New s kinds.Refused place own → AddsItems s (Unit {0}) said own e → denies → Changes s gives denies starves (MadeSaying s says place) (Err e)
 says_made {T} {R} {P} {E} {B} s gives denies starves place own e said says h n k d = by_case k.is
   where

@@ -35,7 +35,7 @@ module _ {I P T R C V S E : Type 0} (step : P → T → P) (s : Observers T R P 
   abbrev run : View P T → Failures → CallRecord P T S
   run new after = record { first = first; state = state; left = z; old = view input; new = new; before = failures input; after = after }
 
-  -- there was no memory for an argument of the function
+  -- what the function is given found no memory
   pub given_none : (e : E) → s.kind e ≡ kinds.Memory → (given → ⊥) → Answers w m (run (view input) (failures input)) (CommitErr e)
   given_none e i n = record { is = rw i (λ f l. n l.0, record { count = 0; taken = takes_none step (view input); state = d }) }
 
@@ -112,7 +112,7 @@ module _ {I P T R C V S E : Type 0} (step : P → T → P) (s : Observers T R P 
         pub back_open : ResetTo counts_failures step marked (view left) new (failures left) later (Ok tt) → new.is_open ≡ true
         back_open b = rw (b.is.0 (view input) i) is_open
 
-        -- the stream couldn't be put back
+        -- it could not be put back
         pub called_stuck : (x : Kind) → ResetTo counts_failures step marked (view left) new (failures left) later (Err x) → (failures input).resets ≤ (failures left).resets → (f : E) → s.kind f ≡ x → Answers w m (run new later) (CommitErr f)
         called_stuck x b g f j =
             let n = b.is.1 in

@@ -95,7 +95,7 @@ module _ {P T R E : Type 0} (step : P → T → P) (s : Observers T R P E) (coun
       answers = record { state = false; left = false; answers = record { is = record { count = 0; meant = x; taken = takes_none step (view input); state = refl; failures = λ s. refl } } };
     }
 
-    -- refused in place, with an error
+    -- refused where it stands, saying why
     pub refused_once : {V : Type 0} (read : Reading P T V) (input : I) (e : E) → read (view input) (Refused true) → IsRefusalOrMemory s.kind s.heapless e → Runs read input input (CommitErr e)
     refused_once {V} read input e x t = record {
       passes = passes_none (marks input) (failures input);
@@ -141,7 +141,7 @@ module _ {P T R E : Type 0} (step : P → T → P) (s : Observers T R P E) (coun
         pub peeks_once : Runs r input mid (PeekOk a) → Runs (q a) mid left y → Runs both input left (joined_answer false (f a) y)
         peeks_once x z = then_once false x.answers.state x.answers.left x.passes x.answers.answers.is z
 
-    -- such a run of a function keeps the laws of a parser
+    -- what such a run of a function keeps
     keeps_once : {V : Type 0} (read : Reading P T V) → IsReading read → (given : I → ParseResult V E → I → Type 0) (input left : I) (y : ParseResult V E) → Runs read input left y → KeepsLaws step s.kind view given marks failures counts_failures input left y
     keeps_once read h given input left y x = run_keeps_laws s step view given marks failures counts_failures (λ b. b ≡ false) (λ b. Unit {0}) (once {R = R} {E = E} read) (once_is_meaning read h) input left y x.passes x.answers
 

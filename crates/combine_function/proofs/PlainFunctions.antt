@@ -1,4 +1,4 @@
--- a function that runs a parser from its start has one outcome if that parser has one, and allocates nothing if that parser allocates nothing
+-- a function that runs a parser from its start has one outcome where that parser has one, and asks for no memory where it asks for none
 use denote.Ref.{MutBor}
 use Rattle.std.specs.Fn.{Shared}
 use Rattle.std.proofs.Common.{ℕ, ◌≡◌, ◌⊎◌, inl, inr, Bool, true, false, length, arith, ap, sym, subst, ◌∙◌, length-drop}
@@ -102,12 +102,12 @@ module _ {I P T R V E S : Type 0} (step : P → T → P) (errors : Observers T R
       pub env_needs_no_memory : errors.heapless → m.heapless → NeedsNoMemory step errors.kind view (AnswersWith clone returns into)
       env_needs_no_memory = run_needs_no_memory (AnswersWith clone returns into) env_runs
 
-    -- a function that is called at references: a property of the values that they show and leave holds of the values
+    -- a function that is called at references: what holds of what it is shown and leaves there holds of the values
     module _ {F : Type 0} (g : Shared F (MutBor I × Unit {0}) (X × (MutBor I × Unit {0}))) (f : F) (k : (shown after : MutBor I) (own : X) → g.post f (shown, tt) (own, (after, tt)) → RunsIt shown.now (into own) after.now) where
       pub runs_at : (input left : I) (own : X) → ReturnsAtMut g f input own left → RunsIt input (into own) left
       runs_at input left own p = rw (sym p.shows, sym p.leaves) (k p.shown p.left own p.met)
 
-    -- the same of one that gets a value too
+    -- the same of one that is given a value too
     module _ {F Env : Type 0} (clone : Env → Type 0) (g : Shared F (Env × (MutBor I × Unit {0})) (X × (MutBor I × Unit {0}))) (f : F) (k : (e : Env) (shown after : MutBor I) (own : X) → clone e → g.post f (e, (shown, tt)) (own, (after, tt)) → RunsIt shown.now (into own) after.now) where
       pub runs_with : (e : Env) (input left : I) (own : X) → clone e → ReturnsWithMut g f e input own left → RunsIt input (into own) left
       runs_with e input left own i p = rw (sym p.shows, sym p.leaves) (k e p.shown p.left own i p.met)

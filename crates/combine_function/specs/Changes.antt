@@ -1,4 +1,4 @@
--- values changed by a function, or refused by it, by the function's relation; commitment and count are kept
+-- values changed by a function, or refused by it, which is known by its relation; kind and count are kept
 use Rattle.std.specs.Str.{IsUtf8}
 use Rattle.std.specs.declared.cmp.Ordering.{Ordering}
 use Rattle.std.specs.Prelude.{ℕ, codes, ◌≡◌, ◌⊎◌, ◌↔◌, refl, List, Bool, true, Result, Ok, Err}
@@ -14,7 +14,7 @@ use Rattle.combine_base.specs.Parser.Meaning.{Meaning, Reading, Refusing, SameRe
 use Rattle.combine_base.specs.declared.stream.Kind.{Kind}
 use Rattle.combine_base.specs.declared.stream.Kind.TheVariants as kinds
 
--- the result of changing one value: a changed value, the error of a refusal, or out of memory, perhaps for an item of that error
+-- what changing one value answers: what it gives, or the error of a refusal, or want of memory, of which an item of that error may be the reason
 module _ {T R P E B : Type 0} (s : Observers T R P E) (gives : B → Type 0) (denies starves : Type 0) (says : E → Type 0) where
   abbrev pub changes : Result B E → Type 0
   changes (Ok b) = gives b
@@ -23,12 +23,12 @@ module _ {T R P E B : Type 0} (s : Observers T R P E) (gives : B → Type 0) (de
   pub record Changes (result : Result B E) : Type 0 where
     pub is : changes result
 
--- the value doesn't run out of memory
+-- the value doesn't find that memory is short
 abbrev pub spares : {A : Type 0} → (A → Type 0) → A → Type 0
 spares starves a = starves a → ⊥
 
 module _ {P T A E : Type 0} (step : P → T → P) (says : P → A → E → Type 0) where
-  -- a value was accepted and then refused with this error; its tokens stay taken
+  -- a value was accepted, and then refused with that error; its tokens stay taken
   pub record RefusesValue (r : Reading P T A) (v w : View P T) (committed : Bool) (e : E) : Type 0 where
     pub value : A
     pub count : ℕ
@@ -36,7 +36,7 @@ module _ {P T A E : Type 0} (step : P → T → P) (says : P → A → E → Typ
     pub taken : Takes step count v w
     pub said : says v.position value e
 
-  -- the error of a refusal is the part's, or the value's
+  -- the error of a refusal is the part's, or that of the value
   pub record RefusesChanged (r : Reading P T A) (part : Refusing P T E) (v w : View P T) (committed : Bool) (e : E) : Type 0 where
     pub is : part v w committed e ⊎ RefusesValue r v w committed e
 
@@ -54,14 +54,14 @@ module _ {P T A E : Type 0} (step : P → T → P) (says : P → A → E → Typ
     refused_into t r part' part (λ v o. (f v o).1) (λ v w k e. (g v w k e).1) v w k e,
   )
 
--- an accepted value is refused
+-- a value that is accepted there is refused
 pub record DeniedValue {P T A : Type 0} (denies : A → Type 0) (r : Reading P T A) (v : View P T) (committed : Bool) : Type 0 where
   pub value : A
   pub count : ℕ
   pub accepted : r v (Accepted value count committed)
   pub denied : denies value
 
--- of the values that may be accepted on a view, none is changed if another is refused
+-- of the values that may be accepted there, none is changed where another is refused
 pub record DecidesOne {P T A B : Type 0} (step : P → T → P) (r : Reading P T A) (gives : P → A → B → Type 0) (denies : A → Type 0) : Type 0 where
   pub one : (v : View P T) (a a' : A) (n m : ℕ) (k c : Bool) → r v (Accepted a n k) → r v (Accepted a' m c) → (b : B) → gives (advanced step n v).position a b → denies a' → ⊥
 
@@ -71,7 +71,7 @@ pub record ChangesOne {P T R E A B S : Type 0} (step : P → T → P) (valid : S
   pub rest : (s : S) → valid s → DecidesOne step (m.rest s) gives denies
 
 module _ {P T A B : Type 0} (step : P → T → P) (gives : P → A → B → Type 0) (denies : A → Type 0) where
-  -- an accepted value is changed, or refused with the same commitment
+  -- a value that is accepted is changed, or refused with the same kind
   abbrev pub changed_reading : Reading P T A → Reading P T B
   changed_reading r v (Accepted b n k) = (a : A) × r v (Accepted a n k) × gives (advanced step n v).position a b
   changed_reading r v (Refused k) = r v (Refused k) ⊎ DeniedValue denies r v k
@@ -162,7 +162,7 @@ module _ {P T A B : Type 0} (step : P → T → P) (gives : P → A → B → Ty
     refuses_from = λ s. refused_same step says (m.rest s) (m'.rest s) (refusals_from m s) (refusals_from m' s) (h.rest s) (refusals_from_same h s);
   }
 
--- the kind of a refused value's error, by the kind of the function's: out of memory stays, any other is a refusal
+-- the kind with which a value is refused for an error of that kind: out of memory stays, and any other is a refusal
 abbrev pub value_kind : Kind → Kind
 value_kind kinds.Refused = kinds.Refused
 value_kind kinds.End = kinds.Refused
@@ -171,14 +171,14 @@ value_kind kinds.Read = kinds.Refused
 value_kind kinds.Reset = kinds.Refused
 value_kind kinds.Lost = kinds.Refused
 
--- a function returns an error for which the value is refused with this kind
+-- a function returns an error for which the value is refused with that kind
 pub record AnsweredKind {A B E : Type 0} (kind : E → Kind) (post : A → Result B E → Type 0) (why : Kind) (a : A) : Type 0 where
   pub error : E
   pub met : post a (Err error)
   pub kind_is : value_kind (kind error) ≡ why
 
 module _ {T R P E : Type 0} (s : Observers T R P E) (cmp : P → P → Ordering) (place : P) where
-  -- an error joined with a refusal at this place
+  -- an error joined with a refusal at that place
   pub record JoinedRefusal (why e : E) : Type 0 where
     pub own : E
     pub new : New s kinds.Refused place own
@@ -192,17 +192,17 @@ module _ {T R P E : Type 0} (s : Observers T R P E) (cmp : P → P → Ordering)
   refused_with kinds.Reset why e = New s kinds.Refused place e
   refused_with kinds.Lost why e = New s kinds.Refused place e
 
-  -- the error of a refused value, from the function's error
+  -- the error with which a value is refused for that error
   pub record RefusedWith (why e : E) : Type 0 where
     pub is : refused_with (s.kind why) why e
 
--- the error of a refused value, for an error that the function returns
+-- an error with which a value is refused for one that the function returns
 pub record RefusedFor {T R P E A B : Type 0} (s : Observers T R P E) (cmp : P → P → Ordering) (post : A → Result B E → Type 0) (place : P) (a : A) (e : E) : Type 0 where
   pub why : E
   pub met : post a (Err why)
   pub refused : RefusedWith s cmp place why e
 
--- the same of an error that becomes an item
+-- the same of an error that is turned into an item
 pub record AnsweredItem {A B E I : Type 0} (kind : I → Kind) (post : A → Result B E → Type 0) (turned : E → I → Type 0) (why : Kind) (a : A) : Type 0 where
   pub error : E
   pub item : I
@@ -210,7 +210,7 @@ pub record AnsweredItem {A B E I : Type 0} (kind : I → Kind) (post : A → Res
   pub turns : turned error item
   pub kind_is : value_kind (kind item) ≡ why
 
--- an error made at this place from the function's error
+-- an error made at that place of what the function answered
 pub record MadeOf {T R P E A B X I : Type 0} (s : Observers T R P E) (items : I → List (ErrorItem T R)) (post : A → Result B X → Type 0) (turned : X → I → Type 0) (place : P) (a : A) (e : E) : Type 0 where
   pub why : X
   pub item : I
@@ -220,26 +220,26 @@ pub record MadeOf {T R P E A B X I : Type 0} (s : Observers T R P E) (items : I 
   pub new : New s kinds.Refused place own
   pub said : AddsItems s (Unit {0}) (λ is. is ≡ items item) own e
 
--- a function that leaves the stream in place for each value
+-- a function that leaves the stream in place, as it answers for a value
 pub record AnswerLeavesStream {I P T B C V : Type 0} (view : I → View P T) (marks : I → C → V → Type 0) (failures : I → Failures) (returns : I → B → I → Type 0) : Type 0 where
   pub kept : (i : I) (b : B) (l : I) → returns i b l → (view l ≡ view i) × Passes (marks i) (marks l) (failures i) (failures l) × (failures l ≡ failures i)
 
--- the results that a function may have for a value, on a stream at this place
+-- what a function may answer for a value, at a stream that stands there
 pub record GivesAt {I P T A B : Type 0} (view : I → View P T) (returns : A → I → B → I → Type 0) (place : P) (a : A) (b : B) : Type 0 where
   pub input : I
   pub left : I
   pub there : (view input).position ≡ place
   pub met : returns a input b left
 
--- bytes that are no text, or a text that `FromStr` refuses
+-- bytes that are no text, or a text that is refused
 abbrev pub Misread : {N E : Type 0} → (List ℕ → Result N E → Type 0) → List ℕ → Type 0
 Misread {N} {E} gives bytes = (IsUtf8 bytes → ⊥) ⊎ (IsUtf8 bytes × (e : E) × gives bytes (Err e))
 
--- their items: UTF-8 was expected, or the value is invalid
+-- what is said of them: that UTF-8 was expected, or that the value is invalid
 abbrev pub unreadable : {N E T R : Type 0} → (List ℕ → Result N E → Type 0) → List ℕ → List (ErrorItem T R) → Type 0
 unreadable {N} {E} gives bytes is = ((IsUtf8 bytes → ⊥) × Only (Expected (Fixed (codes "UTF-8"))) is) ⊎ ((IsUtf8 bytes × (e : E) × gives bytes (Err e)) × Only (Message (Fixed (codes "invalid value"))) is)
 
--- an error made at this place with these items
+-- an error made at that place that says such items
 pub record MadeSaying {T R P E : Type 0} (s : Observers T R P E) (says : List (ErrorItem T R) → Type 0) (place : P) (e : E) : Type 0 where
   pub own : E
   pub new : New s kinds.Refused place own

@@ -1,4 +1,4 @@
--- parsers that are functions, each known by the results of its calls
+-- parsers that are functions: each is known by what its calls answer
 use Rattle.std.specs.Prelude.{ℕ, ◌<◌, ◌≤◌, ◌≡◌, ◌⊎◌, List, ◌++◌, Bool, true, false, length, refl}
 use Rattle.std.proofs.Common.{arith, ap, subst, inl, inr, append_assoc, length-append, ◌∙◌}
 use Rattle.combine_base.specs.Stream.View.{View, Takes, Moves, extended}
@@ -16,7 +16,7 @@ use Rattle.combine_function.specs.declared.function.types.Called.{Called}
 use Rattle.combine_function.specs.declared.function.types.WithoutEnv.{WithoutEnv}
 use Rattle.combine_function.specs.declared.function.types.WithEnv.{WithEnv}
 
--- the parsers of this module, by their parts
+-- the parsers of this module, of their parts
 abbrev pub function_parser : {Input F : Type 0} → F → Called Input (WithoutEnv F)
 function_parser f = record { call = record { 0 = f }; reads = record {} }
 
@@ -26,13 +26,13 @@ env_parser_of env f = record { call = record { env = env; function = f }; reads 
 abbrev pub call_of : {Input C : Type 0} → Called Input C → C
 call_of p = p.call
 
--- a function may have this result for a stream, and leave it so; `into` converts the result
+-- a function may answer this for that stream, and leave it so; into is what its answer is turned into
 pub record AnswersAt {I X A : Type 0} (returns : I → X → I → Type 0) (into : X → A) (input : I) (answer : A) (left : I) : Type 0 where
   pub own : X
   pub met : returns input own left
   pub is : answer ≡ into own
 
--- the same of a function that gets a clone of its environment
+-- the same of a function that is given a clone of what it needs
 pub record AnswersWith {I X A E : Type 0} (clone : E → Type 0) (returns : E → I → X → I → Type 0) (into : X → A) (input : I) (answer : A) (left : I) : Type 0 where
   pub env : E
   pub cloned : clone env
@@ -48,7 +48,7 @@ module _ {P T V E : Type 0} (step : P → T → P) (kind : E → Kind) (old new 
   error_outcome is_open kinds.Reset o = ⊥
   error_outcome is_open kinds.Lost o = ⊥
 
-  -- the outcome of a result; a fault has none
+  -- the outcome that an answer stands for; a fault has none
   abbrev pub answer_outcome : ParseResult V E → Outcome V → Type 0
   answer_outcome (CommitOk a) o = (n : ℕ) × Takes step n old new × (o ≡ Accepted a n true)
   answer_outcome (PeekOk a) o = o ≡ Accepted a 0 false
@@ -91,7 +91,7 @@ module _ {P T V E : Type 0} (step : P → T → P) (kind : E → Kind) (old new 
   accepted_within (CommitErr e) a n k p = absurd (error_refused old.is_open (kind e) a n k p)
   accepted_within (PeekErr t) a n k p = absurd (cc)
 
--- an extension of an open list
+-- a list that goes on from an open one
 pub record ExtendsOpen {P T : Type 0} (u v : View P T) : Type 0 where
   pub is_open : u.is_open ≡ true
   pub more : List T
@@ -99,7 +99,7 @@ pub record ExtendsOpen {P T : Type 0} (u v : View P T) : Type 0 where
   pub is : v ≡ extended more mark u
 
 module _ {I P T V E : Type 0} (step : P → T → P) (kind : E → Kind) (view : I → View P T) (answers : I → ParseResult V E → I → Type 0) where
-  -- the function's result on the list, or its decided result on an open list that this one extends
+  -- what the function answers on the list, or answered, decided, on an open list from which this one goes on
   pub record FunctionReading (v : View P T) (o : Outcome V) : Type 0 where
     pub input : I
     pub left : I
@@ -148,7 +148,7 @@ module _ {I P T V E : Type 0} (step : P → T → P) (kind : E → Kind) (view :
 
   module _ {C : Type 0} (marks : I → C → View P T → Type 0) (failures : I → Failures) (counts_failures : Type 0) where
     module _ (input left : I) where
-      -- some tokens or none were taken, and no failure was counted
+      -- some tokens were taken, or none, and no failure came
       pub record MovesUnfailing : Type 0 where
         pub moves : Moves step (view input) (view left)
         pub counts : counts_failures → failures left ≡ failures input
@@ -180,15 +180,15 @@ module _ {I P T V E : Type 0} (step : P → T → P) (kind : E → Kind) (view :
         pub is : keeps_laws answer
         pub passes : Passes (marks input) (marks left) (failures input) (failures left)
 
-    -- the laws of a parser, kept by each call of the function
+    -- the laws of a parser, as each call of the function keeps them
     pub record IsFunction : Type 0 where
       pub each : (input left : I) (answer : ParseResult V E) → answers input answer left → KeepsLaws input left answer
 
-  -- no call runs out of memory
+  -- no call finds no memory
   abbrev pub NeedsNoMemory : Type 0
   NeedsNoMemory = (input left : I) (e : E) → answers input (CommitErr e) left → kind e ≡ kinds.Memory → ⊥
 
--- the error of a refusal is one that the function returned there, with the stream left so
+-- the error of a refusal is one that the function answered there, and so it left the stream
 module _ {I P T V E : Type 0} (view : I → View P T) (answers : I → ParseResult V E → I → Type 0) where
   abbrev pub refused_by : ParseResult V E → Bool → E → Type 0
   refused_by (CommitOk a) committed e = ⊥

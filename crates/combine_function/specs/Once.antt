@@ -1,4 +1,4 @@
--- a function that runs parsers once: the stream that it leaves on need of more isn't resumed
+-- a function that runs parsers once: from what it leaves on need of more nothing goes on
 use Rattle.std.specs.Prelude.{◌≡◌, Bool, false}
 use Rattle.combine_base.specs.Error.Errors.{Observers, AddsNothing}
 use Rattle.combine_base.specs.Parser.Drivers.{Starts}
@@ -9,7 +9,7 @@ use Rattle.combine_base.specs.Parser.RunOnce.{once_world, unless_stopped, unless
 use Rattle.combine_base.specs.declared.error.result.ParseResult.{ParseResult}
 use Rattle.combine_base.specs.declared.stream.Failures.{Failures}
 
--- it may have any errors
+-- its errors are any
 abbrev pub once : {P T R E V : Type 0} → Reading P T V → Meaning P T R E V Bool
 once read = record { whole = read; rest = unless_stopped read; lost = λ s v. ⊥; keeps = ⊥; puts_back = ⊥; heapless = Unit {0}; adds = AddsNothing; refuses = any_error; refuses_from = λ s. any_error }
 
@@ -23,7 +23,7 @@ once_is_meaning read h = record {
 }
 
 module _ {I P T R E C : Type 0} (step : P → T → P) (errors : Observers T R P E) (counts_failures : Type 0) (view : I → View P T) (marks : I → C → View P T → Type 0) (failures : I → Failures) where
-  -- such a run, and its result
+  -- such a run, and what it answers
   pub record RunsOnce {V : Type 0} (read : Reading P T V) (input left : I) (answer : ParseResult V E) : Type 0 where
     pub passes : Passes (marks input) (marks left) (failures input) (failures left)
     pub answers : Starts (once_world step errors counts_failures) (once {R = R} {E = E} read) (view input) (view left) (failures input) (failures left) answer

@@ -13,22 +13,22 @@ use std::marker::PhantomData;
 pub use text::StrLike;
 use types::{AndThen, FlatMap, FromStr, MapInput};
 
-/// Parses as `p`, and returns the `Ok` of `f` for its value; an `Err` becomes an item of a refusal.
+/// Parses as `p`, and changes its value by `f`, or refuses it where `f` returns an error.
 ///
 /// `f: Fn(P::Output) -> Result<B, E>, E: Into<StreamError>`, or a `Function`; `StreamError` is that of `Input::Error`.
 ///
-/// The tokens taken, refusals, faults, need of more and state are those of `p`. `f` only has to be callable on the values of `p`, and may return any error.
+/// What is taken, refusals, faults and need of more are those of `p`, and so is the state. `f` need only be callable on the values that `p` gives, and may return any error.
 ///
 /// # Errors
 ///
 /// - A refusal by `f` is committed if `p` was. The tokens of `p` stay taken, also at the end of an open piece.
-/// - Its error is at the position before `p`, with the error of `f` as an item.
-/// - If `f`'s error is of kind `Memory`, or there is no memory for the item, that is the fault `Memory`. An error of any other kind is a refusal: if `f` parses a complete frame, a frame that ends too soon is refused and doesn't need more.
+/// - Its error stands at the position before `p`, and says what `f` returned.
+/// - An error of `f` of kind `Memory`, or an item that finds no memory, is that fault. An error of any other kind is a refusal: where `f` parses a frame whole, a frame that ends too soon is refused, and asks for no more.
 ///
 /// # Differences from combine
 ///
-/// - `f` is an `Fn`; combine takes an `FnMut`.
-/// - At the end of an open piece combine puts the tokens of `p` back, and refuses committed.
+/// - `f` is an `Fn`, where the crate takes an `FnMut`.
+/// - At the end of an open piece the crate puts the tokens of `p` back, and refuses committed.
 ///
 /// # Examples
 ///
@@ -54,21 +54,21 @@ pub fn and_then<P, F, B>(p: P, f: F) -> AndThen<P, F, B>
     Changed::new(p, AndThenFn(f))
 }
 
-/// Parses as `p`, and returns the `Ok` of `f` for its value; an `Err` is the error of a refusal.
+/// Parses as `p`, and changes its value by `f`, or refuses it with the error that `f` returns.
 ///
 /// `f: Fn(P::Output) -> Result<B, Input::Error>`, or a `Function`.
 ///
-/// The tokens taken, refusals, faults, need of more and state are those of `p`. `f` only has to be callable on the values of `p`, and may return any error.
+/// What is taken, refusals, faults and need of more are those of `p`, and so is the state. `f` need only be callable on the values that `p` gives, and may return any error.
 ///
 /// # Errors
 ///
 /// - A refusal by `f` is committed if `p` was; the tokens of `p` stay taken. It has the error that `f` returned.
-/// - An error of `f` of kind `End` is a refusal too, with its items: if `f` parses a complete frame, a frame that ends too soon is refused and doesn't need more.
-/// - An error of `f` of kind `Memory` is that fault. Another fault of `f` is a refusal without items.
+/// - An error of `f` of kind `End` is a refusal too, with what it says: where `f` parses a frame whole, a frame that ends too soon is refused, and asks for no more.
+/// - An error of `f` of kind `Memory` is that fault. One of another fault is a refusal that says nothing.
 ///
 /// # Differences from combine
 ///
-/// `f` is an `Fn`; combine takes an `FnMut`.
+/// `f` is an `Fn`, where the crate takes an `FnMut`.
 ///
 /// # Examples
 ///
@@ -94,15 +94,15 @@ pub fn flat_map<P, F, B>(p: P, f: F) -> FlatMap<P, F, B>
     Changed::new(p, FlatMapFn(f))
 }
 
-/// Parses as `p`, and returns `f` of its value and of the stream as `p` left it.
+/// Parses as `p`, and changes its value by `f`, which is given the stream too, as `p` left it.
 ///
 /// `f: Fn(P::Output, &mut Input) -> B`, or a `MutFunction`.
 ///
-/// `f` has to leave the stream in place, and to be callable on the values of `p`. The tokens taken, refusals, faults, need of more and state are those of `p`.
+/// `f` has to leave the stream in place, and to be callable on the values that `p` gives. What is taken, refusals, faults and need of more are those of `p`, and so is the state.
 ///
 /// # Differences from combine
 ///
-/// `f` is an `Fn`; combine takes an `FnMut`.
+/// `f` is an `Fn`, where the crate takes an `FnMut`.
 #[inline]
 pub fn map_input<P, F, B>(p: P, f: F) -> MapInput<P, F, B>
     ensures { result ≡ map_input_of p f }
@@ -110,19 +110,19 @@ pub fn map_input<P, F, B>(p: P, f: F) -> MapInput<P, F, B>
     Changed::new(p, MapInputFn(f))
 }
 
-/// Parses as `p`, whose value is a text, and returns the `T` that the text spells by `FromStr`.
+/// Parses as `p`, whose value is a text, and reads it as a `T` by its `FromStr`.
 ///
-/// The tokens taken, refusals, faults, need of more and state are those of `p`.
+/// What is taken, refusals, faults and need of more are those of `p`, and so is the state.
 ///
 /// # Errors
 ///
-/// - Bytes that aren't UTF-8 are refused with `UTF-8` as the expected item, and a text that is no `T` with the message `invalid value`.
-/// - These refusals are committed if `p` was, with the tokens of `p` taken and the error at the position before `p`.
-/// - If there is no memory for an item, that is the fault `Memory`.
+/// - Bytes that aren't UTF-8 are refused with `UTF-8` said to be expected, and a text that is no `T` with the message `invalid value`.
+/// - These are committed if `p` was, with the tokens of `p` taken and the error at the position before `p`.
+/// - An item that finds no memory is the fault `Memory`.
 ///
 /// # Differences from combine
 ///
-/// combine's message is that of the error of `T`.
+/// The crate's message is that of the error of `T`.
 ///
 /// # Examples
 ///

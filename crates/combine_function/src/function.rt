@@ -1,4 +1,4 @@
-//! Parsers that are functions of a stream: `parser` and `env_parser`.
+//! Parsers that are functions of a stream.
 ghost use Rattle.std.specs.Prelude.{◌≡◌};
 ghost use Rattle.combine_function.specs.Functions.{env_parser_of, function_parser};
 
@@ -7,28 +7,28 @@ pub mod types;
 use std::marker::PhantomData;
 use types::{Called, EnvParser, FnParser, WithEnv, WithoutEnv};
 
-/// Parses by calling `f` on the stream.
+/// Parses as the function, which is given the stream.
 ///
 /// `f: Fn(&mut Input) -> StdParseResult<O, Input>`, or a `MutFunction`.
 ///
-/// No items are added to errors.
+/// Nothing is added to errors.
 ///
-/// # Requirements on the function
+/// # What the function owes
 ///
-/// It has to keep the laws of a parser:
+/// It keeps the laws of a parser:
 ///
-/// - An acceptance takes the tokens of its value, and a peeked acceptance takes nothing.
-/// - A refusal leaves an end of the unread tokens.
+/// - It takes the tokens of its value, and a peeked acceptance takes nothing.
+/// - A refusal leaves an end of what was unread.
 /// - A fault is committed, and is never `Lost`.
-/// - A decision on an open piece is the decision on every longer one.
+/// - What it decides on an open piece, it decides alike on every longer one.
 ///
 /// # Partial input
 ///
-/// On need of more the stream is put back to where it began, and the next call begins again. If that fails, it is the fault `Reset`.
+/// If it asks for more the stream is put back to where it began, and the next call begins again. If that fails, it is the fault `Reset`.
 ///
 /// # Differences from combine
 ///
-/// The function is an `Fn`; combine takes an `FnMut`. On need of more combine loses the tokens that the function took.
+/// The function is an `Fn`, where the crate takes an `FnMut`. On need of more the crate's loses the tokens that it took.
 #[inline]
 pub fn parser<Input, F>(f: F) -> FnParser<Input, F>
     ensures { result ≡ function_parser f }
@@ -39,17 +39,17 @@ pub fn parser<Input, F>(f: F) -> FnParser<Input, F>
     }
 }
 
-/// Parses by calling `f` on a clone of `env` and the stream, as `parser` does.
+/// Parses as `parser` does, by a function that is given a clone of `env` too.
 ///
 /// `f: Fn(E, &mut Input) -> StdParseResult<O, Input>, E: Clone`, or a `MutFunction`.
 ///
 /// # Errors
 ///
-/// If there is no memory for the clone, that is the fault `Memory`.
+/// A clone that finds no memory is the fault `Memory`.
 ///
 /// # Differences from combine
 ///
-/// The function is an `Fn`; combine takes a pointer.
+/// The function is an `Fn`, where the crate takes a pointer.
 #[inline]
 pub fn env_parser<Input, E, F>(env: E, f: F) -> EnvParser<E, Input, F>
     ensures { result ≡ env_parser_of env f }

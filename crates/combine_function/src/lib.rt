@@ -1,4 +1,4 @@
-//! Parsers made of a caller's function: `and_then` and its kin, `parser` and `env_parser`.
+//! Parsers made of a caller's function.
 #![tactic(auto)]
 
 pub mod combinator;

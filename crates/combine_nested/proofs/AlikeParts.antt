@@ -1,4 +1,4 @@
--- an expression has one outcome if its operators refuse nothing and its steps read alike items
+-- an expression has one outcome where its operators refuse nothing, and its steps read items that are alike
 use Rattle.std.proofs.Common.{◌≡◌, ◌↔◌, ℕ, Bool, true, false, Option, Some, None, inl, inr, is_none, is_some, List, [], reverse, sym, ◌∙◌, ap, subst, refl}
 use Rattle.combine_base.specs.Parser.Meaning.{Meaning, Reading}
 use Rattle.combine_base.specs.Parser.Outcome.{Outcome}

@@ -1,4 +1,4 @@
--- every expression fits
+-- what is an expression fits
 use Rattle.std.proofs.Common.{rules, ◌≡◌, ℕ, suc, ◌≤◌, ◌<◌, true, false, nat_le, nat_lt, cond, Option, Some, None, List, [], ◌∷◌, ◌++◌, length, sym, ◌∙◌, ap, subst, refl, arith, append_assoc, slice_get}
 use Rattle.std.proofs.lemmas.Option.{slice_get_within}
 use Rattle.combine_nested.specs.declared.expression.Fixity.{Fixity}
@@ -53,7 +53,7 @@ module _ (O V : Type 0) (levels : List Fixity) where
   pub postfix_fits : (ss : List Slot) (h p : ℕ) (o : O) (k : ReducedShape) → slice_get levels p ≡ Some fixities.Postfix → reduce_to p ss h ≡ k → p ≤ k.level → fit {O = O} {V = V} levels ss (Some h) (Postfix p o) ≡ Some (record { slots = k.slots; held = Some p })
   postfix_fits ss h p o k f r l = ap (λ x. holds_if (fits_behind x (reduce_to p ss h).level p) (reduce_to p ss h).slots p) f ∙ ap (λ (x : ReducedShape). holds_if (nat_le p x.level) x.slots p) r ∙ ap (λ b. holds_if b k.slots p) (is_le p k.level l)
 
--- waiting operators of levels from this one on
+-- operators that wait of levels from this one on
 module _ (levels : List Fixity) where
   pub data IsSlot (s : Slot) : Type 0 where
     is_prefix : slice_get levels s.level ≡ Some fixities.Prefix → s.asks ≡ s.level → IsSlot s
@@ -89,7 +89,7 @@ module _ (levels : List Fixity) where
   one_more q [] s a i l = (i, l, tt)
   one_more q (x ∷ ss) s a i l = (a.0, a.1, one_more q ss s a.2 i l)
 
-  -- the level of the operand after these operators got theirs
+  -- the level of the operand once these were given theirs
   abbrev last_level : List Slot → ℕ → ℕ
   last_level [] h = h
   last_level (s ∷ ss) h = last_level ss s.level
@@ -98,7 +98,7 @@ module _ (levels : List Fixity) where
   last_above q [] h a l = l
   last_above q (s ∷ ss) h a l = last_above q ss s.level a.2 a.1
 
-  -- each requires a level above the given one
+  -- each asks for more than a level
   abbrev all_ask : ℕ → List Slot → Type 0
   all_ask p [] = Unit {0}
   all_ask p (s ∷ ss) = (p < s.asks) × all_ask p ss
@@ -132,7 +132,7 @@ module _ (levels : List Fixity) where
   reduces p (s ∷ xs) ss h a l = pops p s (xs ++ ss) h a.0 ∙ reduces p xs ss s.level a.1 l
 
 module _ {O V : Type 0} (levels : List Fixity) where
-  -- the shape after the things of an expression at level q
+  -- what things come to that stand at a level
   pub record FitsAtLevel (ts : List (Thing O V)) (ss : List Slot) (q : ℕ) : Type 0 where
     pub more : List Slot
     pub above : all_above levels q more
@@ -200,7 +200,7 @@ module _ {O V : Type 0} (levels : List Fixity) where
         let j = c.is in
         cc
 
-    -- no expression ends where an operand is awaited
+    -- none ends where an operand is awaited
     pub no_open_end : (ts : List (Thing O V)) (s : Shape) (w : V) → fits levels ts start ≡ Some s → s.held ≡ None → IsExpression levels changes joins 0 ts w → ⊥
     no_open_end ts s w e h x =
         let c : FitsAtLevel ts [] 0 = comes 0 ts w x 0 [] (omega arith) (omega arith) (omega arith) in

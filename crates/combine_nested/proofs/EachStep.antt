@@ -61,11 +61,11 @@ module _ {F I V N Input U Checkpoint T R P E : Type 0} (p : parser.Ghosts N Inpu
   abbrev whole_world : World P T (NestedState F N U) E
   whole_world = world i.step observers i.counts_failures begins_steps
 
-  -- the remaining reading before the next step
+  -- what is left where the next step comes
   abbrev left_at : Bool → Frames F → Reading P T V
   left_at c l = following c unchanged (runs_at l.top (frames_around l))
 
-  -- the remaining refusals before the next step, and while a step's parser is running
+  -- what is left refuses so: where the next step comes, and where a step's parser runs
   abbrev refused_at : Bool → Frames F → Refusing P T E
   refused_at c l = runs_refuse i.step observers depth roots answers takes joins p.meaning c l.top (frames_around l)
 
@@ -75,19 +75,19 @@ module _ {F I V N Input U Checkpoint T R P E : Type 0} (p : parser.Ghosts N Inpu
   abbrev refused_from : NestedState F N U → Refusing P T E
   refused_from z = nested_refuses i.step observers depth roots answers takes joins p.meaning z
 
-  -- the call has come to the next step
+  -- the call has come so far that the next step comes
   pub record ReachesStep (z : NestedState F N U) (old now : View P T) (before later : Failures) (c : Bool) (l : Frames F) : Type 0 where
     pub progress : Progress part_world (all.rest z) (left_at c l) old now before later
     pub refuses : (w : View P T) (k : Bool) (e : E) → refused_at c l now w k e → refused_from z old w k e
 
-  -- a step's parser is running
+  -- a step's parser runs
   pub record RunsStep (z : NestedState F N U) (old now : View P T) (before later : Failures) (l : RunningStep F N U) : Type 0 where
     pub kept : kept l.parser
     pub progress : Progress part_world (all.rest z) (all.rest (states.Running l)) old now before later
     pub lost : (p.meaning l.parser).lost l.state now → all.lost z old
     pub refuses : (w : View P T) (k : Bool) (e : E) → refused_in l now w k e → refused_from z old w k e
 
-  -- the loop began from a given state, and has come to the next step
+  -- and it began so, from a state that it was given
   pub record LoopsSteps (first : Bool) (given : NestedState F N U) (old now : View P T) (before later : Failures) (c : Bool) (l : Frames F) : Type 0 where
     pub z : NestedState F N U
     pub from : RunsFrom begins_steps first given z
@@ -111,7 +111,7 @@ module _ {F I V N Input U Checkpoint T R P E : Type 0} (p : parser.Ghosts N Inpu
     refuses = λ u j x w. w;
   }
 
-  -- the next step's parser is running
+  -- the next step's parser runs
   pub runs_next_step : {valid : U → Type 0} (z : NestedState F N U) (old now : View P T) (before later : Failures) (c : Bool) (l : Frames F) → ReachesStep z old now before later c l → (n : N) → answers l.top n → kept n → (u : U) → fresh u → IsMeaning fresh valid (p.meaning n) → RunsStep z old now before later (record { frames = l; committed = c; took_before = false; parser = n; state = u })
   runs_next_step z old now before later c l r n j k u d laws =
       let q : RunningStep F N U = record { frames = l; committed = c; took_before = false; parser = n; state = u } in
@@ -147,7 +147,7 @@ module _ {F I V N Input U Checkpoint T R P E : Type 0} (p : parser.Ghosts N Inpu
     abbrev kept_so : Bool → N → U → RunningStep F N U
     kept_so b n stopped = record { frames = l.frames; committed = l.committed; took_before = b; parser = n; state = stopped }
 
-    -- the kept state of the step's parser, which its call may have changed, means the remaining reading
+    -- what is kept of the step's parser, which its call may have changed, means what is left of it
     keeping : (n : N) → MeansSame (p.meaning l.parser) (p.meaning n) → (stopped : U) → KeepsStep p i observers fresh depth takes joins input left l n stopped state → KeepsAround part_world begins_steps (p.meaning l.parser) all (run stopped) false z state old before here r.progress.count
     keeping n same stopped k = record {
       undecided = λ x. (Undecided, (Undecided, (Undecided, x, refl), refl), refl);
@@ -176,25 +176,25 @@ module _ {F I V N Input U Checkpoint T R P E : Type 0} (p : parser.Ghosts N Inpu
       abbrev leaves : begins_steps state → Leaves whole_world whole_run
       leaves d = record { count = taken_count; taken = taken_all; state = d }
 
-      -- the readings after the item are remaining readings
+      -- what comes of the item is what is left
       at_here : (o : Outcome V) → then_at l.frames.top (frames_around l.frames) (a, l.took_before || nat_lt 0 h.count) (advanced i.step h.count (i.view input)) o → here (i.view input) (joined 0 l.committed unchanged (joined h.count k (last_value {B = I × Bool} (a, l.took_before || nat_lt 0 h.count)) o))
       at_here o w = (joined h.count k (last_value {B = I × Bool} (a, l.took_before || nat_lt 0 h.count)) o, (Accepted (a, l.took_before || nat_lt 0 h.count) h.count k, (Accepted a h.count k, h.meant, refl), (o, w, refl)), refl)
 
       meant_so : (o : Outcome V) → then_at l.frames.top (frames_around l.frames) (a, l.took_before || nat_lt 0 h.count) (advanced i.step h.count (i.view input)) o → all.rest z old (after r.progress.count false (joined 0 l.committed unchanged (joined h.count k (last_value {B = I × Bool} (a, l.took_before || nat_lt 0 h.count)) o)))
       meant_so o w = progress_outcome part_world (all.rest z) here old (i.view input) before (i.failures input) r.progress _ (at_here o w)
 
-      -- out of memory
+      -- want of memory
       starved : begins_steps state → (e : E) → observers.kind e ≡ kinds.Memory → Answers whole_world all whole_run (CommitErr e)
       starved d e m = record { is = subst (λ y. fails whole_world all whole_run y) (sym m) (λ f x. absurd x, leaves d) }
 
       refuses_so : begins_steps state → (j c : Bool) → (l.committed || (k || j)) ≡ c → then_at l.frames.top (frames_around l.frames) (a, l.took_before || nat_lt 0 h.count) (advanced i.step h.count (i.view input)) (Refused j) → Refuses whole_world all whole_run c
       refuses_so d j c e w = record { meant = subst (λ y. all.rest z old (Refused y)) e (meant_so (Refused j) w); leaves = leaves d; failures = λ s. h.failures s ∙ r.progress.failures s }
 
-      -- a refusal that is always committed
+      -- a refusal that is committed whatever was before
       refused_so : begins_steps state → then_at l.frames.top (frames_around l.frames) (a, l.took_before || nat_lt 0 h.count) (advanced i.step h.count (i.view input)) (Refused true) → Refuses whole_world all whole_run true
       refused_so d w = refuses_so d true true (ap (λ y. l.committed || y) (or_true k) ∙ or_true l.committed) w
 
-      -- a frame's own refusal
+      -- a frame's own
       denied_so : begins_steps state → (c : Bool) (text : List ℕ) → TakesItem depth takes joins l.frames.top (frames_around l.frames) a (Denied text) → (l.committed || k) ≡ c → Refuses whole_world all whole_run c
       denied_so d c text t e = refuses_so d false c (ap (λ y. l.committed || y) (or_false k) ∙ e) (t.next, t.taken, (Denied text, t.settles, refl))
 
@@ -215,7 +215,7 @@ module _ {F I V N Input U Checkpoint T R P E : Type 0} (p : parser.Ghosts N Inpu
         is_here : took ≡ (l.took_before || nat_lt 0 h.count)
         is_here = is h.count h.taken
 
-        -- the errors after the item are errors of the call
+        -- the errors of what comes of the item are errors of the call
         abbrev behind_view : View P T
         behind_view = advanced i.step h.count (i.view input)
 
@@ -277,7 +277,7 @@ module _ {F I V N Input U Checkpoint T R P E : Type 0} (p : parser.Ghosts N Inpu
               refuses = λ u j x w. refuses_behind u j x s.0 (subst (λ y. goes_said y next.top (frames_around next) u j x) (sym goes) (subst (λ d. runs_refuse i.step observers depth roots answers takes joins p.meaning d next.top (frames_around next) behind_view u j x) s.2 (subst (λ v. runs_refuse i.step observers depth roots answers takes joins p.meaning c next.top (frames_around next) v u j x) h.taken.rest w)));
             }
 
-    -- its result is that of the call
+    -- its answer is that of the call
     pub step_stops : (y : ParseResult V E) → CalledStep p i observers fresh depth takes joins input left l state (dids.Stops y) → Answers whole_world all whole_run y
     step_stops y g = by_answer g.answer g.answers g.did g.keeps
       where
@@ -307,7 +307,7 @@ module _ {F I V N Input U Checkpoint T R P E : Type 0} (p : parser.Ghosts N Inpu
         by_answer (CommitErr e) a x d = subst (λ y. Reasoned observers.kind (i.view left).is_open (refused_from z old (i.view left)) y) (stops_as d) (reasons_committed observers.kind (i.view left).is_open (refused_from z old (i.view left)) e (λ n. r.refuses (i.view left) true e (inl (record { is = inl (refl, x.is n) }))))
         by_answer (PeekErr t) a x d = subst (λ y. Reasoned observers.kind (i.view left).is_open (refused_from z old (i.view left)) y) (stops_as d) (reasons_after observers.kind (i.view left).is_open (refused_from z old (i.view left)) l.committed t (r.refuses (i.view left) l.committed t.error (inl (record { is = inr (refl, x.is) }))))
 
-    -- it was accepted, and the next step follows
+    -- it was accepted, and the next step comes
     pub step_goes : {valid : U → Type 0} → IsMeaning fresh valid (p.meaning l.parser) → valid l.state → (next : Frames F) (c : Bool) → CalledStep p i observers fresh depth takes joins input left l state (dids.Goes next c) → begins_steps state × ReachesStep z old (i.view left) before (i.failures left) c next
     step_goes {valid} laws v next c g = by_answer g.answer g.answers g.did g.keeps
       where
@@ -319,7 +319,7 @@ module _ {F I V N Input U Checkpoint T R P E : Type 0} (p : parser.Ghosts N Inpu
         by_answer (CommitErr e) a d k = absurd (let x : dids.Goes next c ≡ dids.Stops (CommitErr e) = d in cc)
         by_answer (PeekErr t) a d k = absurd (let x : dids.Goes next c ≡ dids.Stops (refused_as l.committed t) = d in cc)
 
--- a parser that was returned for a frame may be kept
+-- a parser that was answered for a frame may be kept
 module _ {F I S N Input U Checkpoint T R P E : Type 0} (p : parser.Ghosts N Input U I Checkpoint T R P E) (callable : S → F → Type 0) (answers : S → F → N → Type 0) (asker : S) where
   pub asked_step_kept : ((f : F) → callable asker f) → ((f : F) (n : N) → answers asker f n → p.lawful n) → {f : F} {n : N} → answers asker f n → KeptOf p.lawful p.meaning (asked_by_some callable answers p.lawful) n
   asked_step_kept k every {f} {n} m = record {
@@ -329,7 +329,7 @@ module _ {F I S N Input U Checkpoint T R P E : Type 0} (p : parser.Ghosts N Inpu
     same = same_none (p.meaning n);
   }
 
--- the state left is valid, and less remains
+-- the state that is left is valid, and what is left is less
 module _ {F I V N Input U Checkpoint T R P E : Type 0} (p : parser.Ghosts N Input U I Checkpoint T R P E) (i : stream.Ghosts Input T R P E) (observers : Observers T R P E) (fresh : U → Type 0) (depth : ℕ) (takes : F → I → Next F V → Type 0) (joins : F → V → Next F V → Type 0) where
   pub step_leaves : (some : N → Type 0) {input left : Input} {l : RunningStep F N U} {state : NestedState F N U} {y : Did F V E} → KeptOf p.lawful p.meaning some l.parser → CalledStep p i observers fresh depth takes joins input left l state y → valid_steps (KeptOf p.lawful p.meaning some) p.valid state
   step_leaves some {input} {left} {l} {state} {y} d g = by_need g.keeps
@@ -360,7 +360,7 @@ module _ {F I V N Input U Checkpoint T R P E : Type 0} (p : parser.Ghosts N Inpu
       by_answer (CommitErr e) h d = absurd (let x : dids.Goes next c ≡ dids.Stops (CommitErr e) = d in cc)
       by_answer (PeekErr t) h d = absurd (let x : dids.Goes next c ≡ dids.Stops (refused_as l.committed t) = d in cc)
 
-  -- the measure of a loop over steps
+  -- what a loop over steps has before it
   abbrev pub steps_left_over : View P T → Did F V E → ℕ
   steps_left_over v (dids.Goes l c) = suc (2 * length v.unread + length (frames_around l))
   steps_left_over v (dids.Stops y) = 0
@@ -370,7 +370,7 @@ module _ {F I V N Input U Checkpoint T R P E : Type 0} (p : parser.Ghosts N Inpu
   steps_fall {y = dids.Stops y} b g = omega arith
 
 module _ {F I V N Input U Checkpoint T R P E : Type 0} (p : parser.Ghosts N Input U I Checkpoint T R P E) (i : stream.Ghosts Input T R P E) (observers : Observers T R P E) (fresh : U → Type 0) (depth : ℕ) (roots : F → Type 0) (answers : F → N → Type 0) (takes : F → I → Next F V → Type 0) (joins : F → V → Next F V → Type 0) (some : N → Type 0) where
-  -- the steps so far lead to the next one, or to the result
+  -- what the steps so far lead to: the next one, or the answer
   abbrev pub leads_to : Bool → NestedState F N U → NestedState F N U → View P T → View P T → Failures → Failures → Did F V E → Type 0
   leads_to first given state old now before later (dids.Goes l c) = begins_steps state × LoopsSteps p i observers fresh depth roots answers takes joins some first given old now before later c l
   leads_to first given state old now before later (dids.Stops y) = valid_steps (KeptOf p.lawful p.meaning some) p.valid state × Answers (whole_world p i observers fresh depth roots answers takes joins some) (all p i observers fresh depth roots answers takes joins some) (record { first = first; state = given; left = state; old = old; new = now; before = before; after = later }) y × ReasonedCall observers (all p i observers fresh depth roots answers takes joins some) first given old now y

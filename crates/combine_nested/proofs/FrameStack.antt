@@ -1,4 +1,4 @@
--- frames, with the innermost last
+-- frames of which the innermost stands last
 use Rattle.std.proofs.Common.{rules, ◌≡◌, ℕ, ◌+◌, ◌<◌, ◌≤◌, Bool, true, false, List, [], ◌∷◌, ◌++◌, length, reverse, sym, ◌∙◌, ap, subst, refl, arith, nat_lt, ◌||◌}
 use Rattle.std.proofs.lemmas.List.{reverse-append, length-reverse}
 use Rattle.combine_nested.specs.NestedSteps.{FramesChange, Opened, Closed, Denied, TooDeep, settles_frames}
@@ -44,7 +44,7 @@ none_fewer took xs ys e l =
     let j : nat_lt (length (reverse xs)) (length (reverse ys)) ≡ false = (let a = length-reverse xs in let b = length-reverse ys in let h : length (reverse ys) ≤ length (reverse xs) = omega arith in search rules) in
     rw (e, j) refl
 
--- a step opens at most one frame
+-- what becomes of frames is at most one frame more
 module _ {F V : Type 0} (depth : ℕ) (joins : F → V → Next F V → Type 0) where
   one_higher_in : (b : Bool) (f h g : F) (fs gs : List F) → nat_lt (length fs) depth ≡ b → settles_frames depth joins fs (nexts.Open f h) (Opened g gs) → length gs ≤ length fs + 1
   one_higher_in true f h g fs gs e w = let i : ◌≡◌ {A = FramesChange F V} (Opened g gs) (Opened h (f ∷ fs)) = rw e at w in let j : gs ≡ f ∷ fs = cc in let k : length gs ≡ length fs + 1 = rw j (omega arith) in omega arith

@@ -1,4 +1,4 @@
--- one more thing of an unfinished expression
+-- one thing more of an expression that isn't over
 use Rattle.std.proofs.Common.{rules, ◌≡◌, ℕ, suc, ◌≤◌, ◌<◌, Option, Some, None, Result, Ok, Err, MatchResult, is_some, true, false, nat_le, List, [], ◌∷◌, ◌++◌, length, reverse, sym, ◌∙◌, ap, subst, refl, arith, append_assoc, slice_get, vec_items, codes, inl, inr}
 use Rattle.std.proofs.lemmas.List.{reverse-append}
 use Rattle.std.proofs.lemmas.Option.{slice_get_within}
@@ -48,7 +48,7 @@ module _ {O V : Type 0} (levels : List Fixity) (changes : O → V → V → Type
   asked_at p ps ts None w = let l = slice_get_within levels p.level fixities.Prefix w.is_prefix in let e = w.asks in omega arith
   asked_at p ps ts (Some a) w = let k = sides_within (slice_get levels p.level) p.level (length levels) w.lowest (some_within (slice_get levels p.level) levels p.level w.lowest refl w.sides) w.sides in let e = w.asks in omega arith
 
-  -- no operator requires a level above that of a single operand
+  -- an operand is of each level that is asked for
   pub asked_within : (ps : List (Pending O V)) (ts : List (Thing O V)) → pends levels changes joins ps ts → asked_level ps ≤ length levels
   asked_within [] ts w = omega arith
   asked_within (p ∷ ps) ts w = asked_at p ps ts p.left w
@@ -120,7 +120,7 @@ behind_so (Some fixities.Left) a p e = absurd (cc)
 behind_so (Some fixities.Right) a p e = absurd (cc)
 behind_so (Some fixities.Neither) a p e = absurd (cc)
 
--- without a waiting operator no level is required
+-- none waits that asks for anything
 pub none_asked : {O V : Type 0} (xs : List (Pending O V)) (level : ℕ) → length xs ≡ 0 → level < asked_level (reverse xs) → ⊥
 none_asked [] level e l = omega arith
 none_asked (x ∷ xs) level e l = absurd (cc)
@@ -228,7 +228,7 @@ module _ {O V : Type 0} (refuses_operand : O → V → List ℕ → Type 0) (ref
   blames_so misfits refuses other h (faults.Refused m) b = h m.now b
 
   module _ (changes : O → V → V → Type 0) (joins : O → V → V → V → Type 0) where
-    -- the innermost operator refuses
+    -- the innermost refuses
     pub pop_refuses : (xs ys : List (Pending O V)) (p : Pending O V) (held : Held V) (is_read : List Fixity → List (Thing O V) → Type 0) (is_complete : ℕ → Type 0) (x : Fault) → xs ≡ ys ++ p ∷ [] → ((levels : List Fixity) (ts : List (Thing O V)) → is_read levels ts → HoldsOperand levels changes joins (reverse xs) held ts) → is_complete (asked_level (reverse xs)) → blames (λ _. ⊥) (operator_refuses refuses_operand refuses_operands p.operator p.left held.value) x → blames (λ _. ⊥) (λ m. (levels : List Fixity) → WaitingRefuses refuses_operand refuses_operands changes joins levels (is_read levels) is_complete m) x
     pop_refuses xs ys p held is_read is_complete x e h c b =
         let i : reverse xs ≡ p ∷ reverse ys = innermost_of xs ys p e in
@@ -245,7 +245,7 @@ module _ {O V : Type 0} (refuses_operand : O → V → List ℕ → Type 0) (ref
       abbrev held_so : List Fixity → List (Thing O V) → Type 0
       held_so levels = HoldsOperand levels changes joins (reverse (vec_items from.pending)) held
 
-      -- one of the waiting operators refuses
+      -- one of those that wait refuses
       waiting_so : (is_complete : ℕ → Type 0) (m : List ℕ) → ((levels : List Fixity) → WaitingRefuses refuses_operand refuses_operands changes joins levels (held_so levels) is_complete m) → WaitingRefuses refuses_operand refuses_operands changes joins from.levels (StandsIn changes joins from) is_complete m
       waiting_so is_complete m h =
           let w = h from.levels in

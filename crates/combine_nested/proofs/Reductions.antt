@@ -1,4 +1,4 @@
--- operators that get their operands
+-- operators that are given their operands
 use Rattle.std.proofs.Common.{◌≡◌, ℕ, zero, suc, ◌+◌, ◌-◌, ◌≤◌, Option, Some, None, List, [], ◌∷◌, ◌++◌, length, reverse, sym, ◌∙◌, ap, subst, refl, arith, append_assoc, slice_get}
 use Rattle.std.proofs.lemmas.List.{reverse-append}
 use Rattle.combine_nested.specs.declared.expression.Fixity.{Fixity}
@@ -21,7 +21,7 @@ module _ {O V : Type 0} (levels : List Fixity) (changes : O → V → V → Type
   lower_by zero p q ts v e x = subst (λ k. E k ts v) (let j : q ≡ p = omega arith in j) x
   lower_by (suc n) p q ts v e x = higher p ts v (lower_by n (suc p) q ts v (omega arith) x)
 
-  -- an expression at a level is one at each lower level
+  -- what stands at a level stands where a lower one is asked for
   pub stands_lower : (p q : ℕ) (ts : List (Thing O V)) (v : V) → p ≤ q → E q ts v → E p ts v
   stands_lower p q ts v l x = lower_by (q - p) p q ts v (omega arith) x
 
@@ -64,7 +64,7 @@ module _ {O V : Type 0} (levels : List Fixity) (changes : O → V → V → Type
       are = are ∙ ap (λ k. k ++ operand) w.are ∙ append_assoc w.before (w.left ++ Infix p.level p.operator ∷ []) operand ∙ ap (λ k. w.before ++ k) (append_assoc w.left (Infix p.level p.operator ∷ []) operand);
     }
 
-  -- the innermost operator gets the operand
+  -- the innermost is given the operand
   pub reduced : (p : Pending O V) (ps : List (Pending O V)) (held next : Held V) (ts : List (Thing O V)) → Reduced changes joins p held.value next → HoldsOperand levels changes joins (p ∷ ps) held ts → HoldsOperand levels changes joins ps next ts
   reduced p ps held next ts r h = reduced_at p ps held next ts h.before h.operand h.fits h.are h.is_operand r.level p.left h.pends r.made
 
@@ -72,7 +72,7 @@ module _ {O V : Type 0} (levels : List Fixity) (changes : O → V → V → Type
   pub pop_reduced : (xs ys : List (Pending O V)) (p : Pending O V) (held next : Held V) (ts : List (Thing O V)) → xs ≡ ys ++ p ∷ [] → Reduced changes joins p held.value next → HoldsOperand levels changes joins (reverse xs) held ts → HoldsOperand levels changes joins (reverse ys) next ts
   pop_reduced xs ys p held next ts e r h = reduced p (reverse ys) held next ts r (subst (λ k. HoldsOperand levels changes joins k held ts) (innermost_of xs ys p e) h)
 
-  -- there is no waiting operator
+  -- none waits
   pub complete : (held : Held V) (ts : List (Thing O V)) → HoldsOperand levels changes joins [] held ts → E 0 ts held.value
   complete held ts h =
       let e : ts ≡ h.operand = h.are ∙ ap (λ k. k ++ h.operand) h.pends in

@@ -1,4 +1,4 @@
--- the errors of one step, and of those after it
+-- the errors of one step, and of those behind it
 use Rattle.std.proofs.Common.{ℕ, suc, inl, inr, Bool, true, false, ◌||◌, nat_lt, List, length}
 use Rattle.combine_base.specs.Error.Errors.{Observers}
 use Rattle.combine_base.specs.Parser.Meaning.{Meaning, Reading, Refusing, IsMeaning, refusals, refusals_begin, refusals_from}
@@ -32,12 +32,12 @@ module _ {P T R F I V N U E : Type 0} (step : P → T → P) (errors : Observers
       let x = ended_bounded v.position (advanced step y.count v) w k e (length fs) (b || nat_lt 0 y.count) (c || y.commits) y.ends y.refuses in
       (x.0, record { item = y.item; count = y.count; commits = y.commits; accepted = y.accepted; next = y.next; taken = y.taken; ends = y.ends; settles = y.settles; refuses = x.1 })
 
-  -- one step, or one after it, is one of a number of steps
+  -- one step, or one behind it, is one of a number of steps
   one_refuses : (n : N) (f : F) → answers f n → (c : Bool) (fs : List F) (v w : View P T) (k : Bool) (e : E) → step_refuses step errors depth roots answers takes joins means runs_at n (refusals (means n)) (means n).whole false c f fs v w k e → runs_at c f fs v w k e
   one_refuses n f a c fs v w k e (inl x) = (suc 0, (n, a, inl x))
   one_refuses n f a c fs v w k e (inr x) = let y = item_bounded (means n).whole false c f fs v w k e x in (suc y.0, (n, a, inr y.1))
 
-  -- the step's parser was returned for the innermost frame, and begins
+  -- the step's parser was answered for the innermost frame, and begins
   pub next_step_refuses : {fresh valid : U → Type 0} (l : Frames F) (c : Bool) (n : N) → answers l.top n → IsMeaning fresh valid (means n) → (u : U) → fresh u → (v w : View P T) (k : Bool) (e : E) → running_step_refuses step errors depth roots answers takes joins means (record { frames = l; committed = c; took_before = false; parser = n; state = u }) v w k e → runs_at c l.top (frames_around l) v w k e
   next_step_refuses l c n a laws u d v w k e (inl x) =
       one_refuses n l.top a c (frames_around l) v w k e (inl (last_into errors (means n) (means n) (refusals_from (means n) u) (refusals (means n)) (λ y. y) (λ is y. y) (λ v w k e. (refusals_begin laws u d v w k e).0) c v w k e x))

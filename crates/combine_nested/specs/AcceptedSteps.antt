@@ -16,12 +16,12 @@ module _ {P T R E F I V N U : Type 0} (step : P → T → P) (depth : ℕ) (root
   abbrev pub steps_at : ℕ → F → List F → Reading P T V
   steps_at = steps_at_most step depth roots answers takes joins some means
 
-  -- Steps from a view on, over frames, the innermost first, to others, and the number of tokens that they take. Each item is read by a parser that is returned for the innermost frame, where the step before ended.
+  -- Steps from a view on, over frames, the innermost first, to others, and how many tokens they take. Each item is read by a parser that is answered for the innermost frame, where the step before ended.
   pub data Steps : F → List F → View P T → List I → ℕ → F → List F → View P T → Type 0 where
     no_step : (f : F) (fs : List F) (v : View P T) → Steps f fs v [] 0 f fs v
     one_more : (f : F) (fs : List F) (v : View P T) (i : I) (n : ℕ) (c : Bool) (x : Next F V) (g : F) (gs : List F) (is : List I) (m : ℕ) (h : F) (hs : List F) (w : View P T) → reads_item f v (Accepted i n c) → takes f i x → settles_frames depth joins fs x (Opened g gs) → Steps g gs (advanced step n v) is m h hs w → Steps f fs v (i ∷ is) (n + m) h hs w
 
-  -- steps that take this number of tokens, up to the last, which closes the outermost frame with the value
+  -- steps that take so many tokens, up to the last, which closes the outermost frame with the value
   pub record ReadsItems (f : F) (fs : List F) (v : View P T) (a : V) (taken : ℕ) : Type 0 where
     pub items : List I
     pub count : ℕ

@@ -1,4 +1,4 @@
--- steps over frames have one outcome, if alike frames have alike results
+-- steps over frames have one outcome, where what comes of alike frames is alike
 use Rattle.std.specs.Prelude.{◌≡◌, ◌↔◌, ℕ, zero, suc, Bool, true, false, ◌||◌, nat_lt, List, [], ◌∷◌, length}
 use Rattle.std.proofs.Common.{sym, ◌∙◌, subst, ap, refl}
 use Rattle.combine_base.specs.Error.Errors.{Observers}
@@ -15,7 +15,7 @@ use Rattle.combine_nested.specs.declared.nested.steps.NestedState.{NestedState}
 use Rattle.combine_nested.specs.declared.nested.steps.NestedState.TheVariants as states
 
 module _ {F V : Type 0} (alike : F → F → Type 0) (alike_values : V → V → Type 0) where
-  -- the results of two frames are alike
+  -- what comes of frames is alike
   abbrev pub nexts_alike : Next F V → Next F V → Type 0
   nexts_alike (nexts.Stay f) (nexts.Stay g) = alike f g
   nexts_alike (nexts.Open f f') (nexts.Open g g') = alike f g × alike f' g'
@@ -41,11 +41,11 @@ module _ {F V : Type 0} (alike : F → F → Type 0) (alike_values : V → V →
   same_lengths [] (g ∷ gs) k = absurd k
   same_lengths (f ∷ fs) [] k = absurd k
 
--- all values accepted on one view, with as many tokens, are alike
+-- all values that are accepted of one view, with as many tokens, are alike
 pub record GivesAlike {P T I : Type 0} (alike_items : I → I → Type 0) (r : Reading P T I) : Type 0 where
   pub one : (v : View P T) (a a' : I) (n : ℕ) (c : Bool) → r v (Accepted a n c) → r v (Accepted a' n c) → alike_items a a'
 
--- Alike frames have alike results for alike items or values; and the parsers returned for them mean the same, with alike items.
+-- What comes of alike frames is alike, where they are given alike items or values; and they are given parsers that mean the same, whose items are alike.
 pub record NestsOne {P T R E F I V N U : Type 0} (roots : F → Type 0) (answers : F → N → Type 0) (takes : F → I → Next F V → Type 0) (joins : F → V → Next F V → Type 0) (some : N → Type 0) (means : N → Meaning P T R E I U) (valid : U → Type 0) (alike : F → F → Type 0) (alike_items : I → I → Type 0) (alike_values : V → V → Type 0) : Type 0 where
   pub same : (f : F) → alike f f
   pub root : (f g : F) → roots f → roots g → alike f g

@@ -1,4 +1,4 @@
--- functions that return the parser of the next step
+-- what answers the parser of the next step
 use Rattle.std.specs.Prelude.{Bool, true, false}
 use Rattle.combine_choice.specs.declared.variants.either.Either.{Either}
 use Rattle.combine_choice.specs.declared.variants.either.Either.TheVariants.{Left, Right}
@@ -16,12 +16,12 @@ always_with_of m = record { 0 = m }
 abbrev pub if_else_of : {C A B : Type 0} → C → A → B → IfElse C A B
 if_else_of c a b = record { 0 = c; 1 = a; 2 = b }
 
--- the first's where the test may be true, and the second's where it may be false
+-- the first where the test may hold, and the second where it may not
 abbrev pub asked_either : {F N M : Type 0} → (F → Bool → Type 0) → (F → N → Type 0) → (F → M → Type 0) → F → Either N M → Type 0
 asked_either tells a b f (Left n) = tells f true × a f n
 asked_either tells a b f (Right m) = tells f false × b f m
 
--- returned for some frame by a function that may be called on each, and whose parsers are all lawful
+-- answered for some frame by one that may be asked for each, and whose parsers are all lawful
 abbrev pub asked_by_some : {S F N : Type 0} → (S → F → Type 0) → (S → F → N → Type 0) → (N → Type 0) → N → Type 0
 asked_by_some {F = F} callable answers lawful = MadeBySome (λ s. (f : F) → callable s f) (λ s n. (f : F) × answers s f n) lawful
 

@@ -4,7 +4,7 @@ use Rattle.std.specs.Prelude.Option.{Some}
 use Rattle.combine_nested.specs.declared.expression.Fixity.{Fixity}
 use Rattle.combine_nested.specs.declared.expression.Fixity.TheVariants as fixities
 
--- the elements of an expression; an operator has its level, and a part in brackets is an operand
+-- what an expression is made of: an operator stands with its level, and what is in brackets is an operand
 pub data Thing (O V : Type 0) : Type 0 where
   Operand : (value : V) → Thing O V
   Prefix : (level : ℕ) (operator : O) → Thing O V
@@ -12,11 +12,11 @@ pub data Thing (O V : Type 0) : Type 0 where
   Infix : (level : ℕ) (operator : O) → Thing O V
 
 module _ {O V : Type 0} (levels : List Fixity) (changes : O → V → V → Type 0) (joins : O → V → V → V → Type 0) where
-  -- the expressions at a level, and their values
+  -- what stands at a level, and its value
   pub data IsExpression : ℕ → List (Thing O V) → V → Type 0 where
-    -- an operand is at each level
+    -- an operand stands at each level
     operand : (p : ℕ) (v : V) → IsExpression p (Operand v ∷ []) v
-    -- an expression at the next level is one at this level
+    -- what stands at the next level stands at this one
     higher : (p : ℕ) (ts : List (Thing O V)) (v : V) → IsExpression (suc p) ts v → IsExpression p ts v
     -- a prefix operator, and its operand of its own level
     prefix : (p : ℕ) (o : O) (r : List (Thing O V)) (a w : V) → slice_get levels p ≡ Some fixities.Prefix → IsExpression p r a → changes o a w → IsExpression p (Prefix p o ∷ r) w

@@ -1,4 +1,4 @@
--- steps over open frames: their meaning with the errors of refusals, and the laws that it keeps
+-- steps over frames that are open inside one another: which error a refusal has, what they mean, and the laws of a meaning, which they keep
 use Rattle.std.specs.Prelude.{◌≡◌, ℕ, zero, suc, Bool, true, false, ◌||◌, nat_lt, List, [], ◌∷◌, length, reverse, vec_items, codes, ◌⊎◌, ◌↔◌}
 use Rattle.combine_base.specs.Stream.View.{View, advanced}
 use Rattle.combine_base.specs.Parser.Outcome.{Outcome, Accepted, Refused, Undecided, IsDecided}
@@ -21,7 +21,7 @@ use Rattle.std.proofs.Common.{sym, ◌∙◌, subst, arith, ap, refl}
 use Rattle.combine_base.specs.Parser.KeptParsers.{KeptOf}
 use Rattle.combine_base.specs.Sequence.JoinedOutcome.{unchanged, last_value}
 
--- the parser with this root and these steps
+-- the parser of this root and these steps
 abbrev pub nested_of : {R S : Type 0} → Global → ℕ → R → S → Nested R S
 nested_of alloc depth root asked = record { alloc = alloc; depth = depth; root = root; asked = asked }
 
@@ -34,16 +34,16 @@ root_part p = p.root
 abbrev pub step_asker : {R S : Type 0} → Nested R S → S
 step_asker p = p.asked
 
--- the frames around the innermost, from the inside
+-- the frames round the innermost, from the inside
 abbrev pub frames_around : {F : Type 0} → Frames F → List F
 frames_around l = reverse (vec_items l.outer)
 
--- no step has begun
+-- no step was asked for
 abbrev pub begins_steps : {F N U : Type 0} → NestedState F N U → Type 0
 begins_steps states.Start = Unit {0}
 begins_steps (states.Running l) = ⊥
 
--- a valid state: the parser of its running step may be kept, with a valid state
+-- a state is valid where the parser of its running step is one that may be kept, and its state is valid
 abbrev pub valid_steps : {F N U : Type 0} → (N → Type 0) → (U → Type 0) → NestedState F N U → Type 0
 valid_steps kept valid states.Start = Unit {0}
 valid_steps kept valid (states.Running l) = kept l.parser × valid l.state
@@ -52,13 +52,13 @@ pub steps_start_valid : {F N U : Type 0} (kept : N → Type 0) (valid : U → Ty
 steps_start_valid kept valid states.Start d = tt
 steps_start_valid kept valid (states.Running l) d = absurd d
 
--- the frames after a step
+-- what became of the frames
 pub data FramesChange (F V : Type 0) : Type 0 where
-  -- the innermost, and those around it, from the inside
+  -- the innermost, and those round it, from the inside
   Opened : (top : F) (others : List F) → FramesChange F V
   -- the outermost is closed
   Closed : (value : V) → FramesChange F V
-  -- a frame refuses with this message
+  -- a frame refuses, with this message
   Denied : (text : List ℕ) → FramesChange F V
   TooDeep : FramesChange F V
 
@@ -67,7 +67,7 @@ module _ {F V : Type 0} (depth : ℕ) (joins : F → V → Next F V → Type 0) 
   opens_frame true f g fs e = e ≡ Opened g (f ∷ fs)
   opens_frame false f g fs e = e ≡ TooDeep
 
-  -- the frames after the innermost frame's result: the value of each closed frame goes to the one around it
+  -- what becomes of the frames round one of which that came: the value of each that is closed is given to the one round it
   abbrev pub settles_frames : List F → Next F V → FramesChange F V → Type 0
   settles_frames fs (nexts.Stay f) e = e ≡ Opened f fs
   settles_frames fs (nexts.Open f g) e = opens_frame (nat_lt (length fs) depth) f g fs e
@@ -85,44 +85,44 @@ abbrev pub marked_taken : {P T I : Type 0} → Bool → Reading P T I → Readin
 marked_taken {P} {T} {I} g r v o = (p : Outcome I) × r v p × (o ≡ mark_taken g p)
 
 module _ {P T R E F I V N U : Type 0} (step : P → T → P) (depth : ℕ) (roots : F → Type 0) (answers : F → N → Type 0) (takes : F → I → Next F V → Type 0) (joins : F → V → Next F V → Type 0) (some : N → Type 0) (means : N → Meaning P T R E I U) where
-  -- any parser that may be returned for the frame
+  -- any parser that is answered for the frame
   abbrev pub answered_for_frame : F → Reading P T I
   answered_for_frame f v o = (n : N) × answers f n × (means n).whole v o
 
   module _ (again : F → List F → Reading P T V) where
-    -- the next step follows if a token was taken or there are fewer frames
+    -- the next step comes where a token was taken, or there are fewer frames
     abbrev pub after_progress : Bool → F → List F → Reading P T V
     after_progress true f fs v o = again f fs v o
     after_progress false f fs v o = o ≡ Refused true
 
-    -- the reading after a step on this number of frames around the innermost
+    -- what that comes to after a step on so many frames round the innermost
     abbrev pub after_step : ℕ → Bool → FramesChange F V → Reading P T V
     after_step h took (Opened f fs) v o = after_progress (took || nat_lt (length fs) h) f fs v o
     after_step h took (Closed a) v o = o ≡ Accepted a 0 false
     after_step h took (Denied text) v o = o ≡ Refused false
     after_step h took TooDeep v o = o ≡ Refused true
 
-    -- the reading after an item that the innermost frame takes
+    -- after an item that the innermost frame takes
     abbrev pub after_item : F → List F → I × Bool → Reading P T V
     after_item f fs b v o = (x : Next F V) × takes f b.0 x × ((e : FramesChange F V) × settles_frames depth joins fs x e × after_step (length fs) b.1 e v o)
 
-    -- a step whose parser has this reading
+    -- where the step's parser has this reading
     abbrev pub stepping : Reading P T (I × Bool) → F → List F → Reading P T V
     stepping r f fs = sequel step last_value r (after_item f fs)
 
-  -- at most this number of steps
+  -- so many steps, at most
   abbrev pub steps_at_most : ℕ → F → List F → Reading P T V
   steps_at_most zero f fs v o = ⊥
   steps_at_most (suc n) f fs v o = stepping (steps_at_most n) (marked_taken false (answered_for_frame f)) f fs v o
 
-  -- steps over these frames, up to the deciding one
+  -- steps over these frames, up to the one that decides
   abbrev pub runs : F → List F → Reading P T V
   runs f fs v o = (n : ℕ) × steps_at_most n f fs v o
 
   abbrev pub nested_whole : Reading P T V
   nested_whole v o = (f : F) × roots f × runs f [] v o
 
-  -- the remaining reading while a step's parser is running
+  -- what is left where a step's parser runs
   abbrev pub running : RunningStep F N U → Reading P T V
   running l = following l.committed unchanged (stepping runs (marked_taken l.took_before ((means l.parser).rest l.state)) l.frames.top (frames_around l.frames))
 
@@ -134,11 +134,11 @@ module _ {P T R E F I V N U : Type 0} (step : P → T → P) (depth : ℕ) (root
   nested_lost states.Start v = ⊥
   nested_lost (states.Running l) v = (means l.parser).lost l.state v
 
--- the error is that of a refusal at this place, with this message as its only item
+-- the error is that of a refusal at this place, to which this message alone was added
 abbrev pub IsRefusalSaying : {T R P E : Type 0} → Observers T R P E → P → List ℕ → E → Type 0
 IsRefusalSaying errors place text e = HasItems errors kinds.Refused place (Only (Message (Fixed text))) e
 
--- a refusal with a message at a place, committed or not, after which nothing more is taken
+-- a refusal with a message at a place, committed or not, where nothing more is taken
 pub record RefusesTelling {T R P E : Type 0} (errors : Observers T R P E) (place : P) (text : List ℕ) (c : Bool) (v w : View P T) (k : Bool) (e : E) : Type 0 where
   pub commits : k ≡ c
   pub stays : w ≡ v
@@ -146,19 +146,19 @@ pub record RefusesTelling {T R P E : Type 0} (errors : Observers T R P E) (place
 
 module _ {P T R F I V N U E : Type 0} (step : P → T → P) (errors : Observers T R P E) (depth : ℕ) (roots : F → Type 0) (answers : F → N → Type 0) (takes : F → I → Next F V → Type 0) (joins : F → V → Next F V → Type 0) (means : N → Meaning P T R E I U) where
   module _ (again : Bool → F → List F → Refusing P T E) where
-    -- the next step refuses; or no token was taken, with as many frames as before
+    -- the next step refuses; or no token was taken, with as many frames as there were
     abbrev pub goes_refuses : P → Bool → Bool → F → List F → Refusing P T E
     goes_refuses place true c f fs v w k e = again c f fs v w k e
     goes_refuses place false c f fs v w k e = RefusesTelling errors place (codes "repetition takes nothing") true v w k e
 
-    -- the frames after a step refuse; the step began at a place, on this number of frames around the innermost
+    -- what became of the frames refuses, after a step that began at a place, on so many frames round the innermost
     abbrev pub ended_refuses : P → ℕ → Bool → Bool → FramesChange F V → Refusing P T E
     ended_refuses place h took c (Opened f fs) v w k e = goes_refuses place (took || nat_lt (length fs) h) c f fs v w k e
     ended_refuses place h took c (Closed a) v w k e = ⊥
     ended_refuses place h took c (Denied text) v w k e = RefusesTelling errors place text c v w k e
     ended_refuses place h took c TooDeep v w k e = RefusesTelling errors place (codes "nesting too deep") true v w k e
 
-    -- The step's parser is accepted, and the frames after its item refuse. `took_before` is whether it took a token before; c is whether a step before was committed.
+    -- The step's parser is accepted, and what comes of its item refuses. It took a token before, or not; c says whether a step before was committed.
     pub record RefusesStepItem (r : Reading P T I) (took_before c : Bool) (f : F) (fs : List F) (v w : View P T) (k : Bool) (e : E) : Type 0 where
       pub item : I
       pub count : ℕ
@@ -170,11 +170,11 @@ module _ {P T R F I V N U E : Type 0} (step : P → T → P) (errors : Observers
       pub settles : settles_frames depth joins fs next ends
       pub refuses : ended_refuses v.position (length fs) (took_before || nat_lt 0 count) (c || commits) ends (advanced step count v) w k e
 
-    -- a step refuses: its parser, which has this reading and these errors, or the frames after its item
+    -- a step refuses: its parser, which has this reading and these errors, or what comes of its item
     abbrev pub step_refuses : N → Refusing P T E → Reading P T I → Bool → Bool → F → List F → Refusing P T E
     step_refuses n own r took_before c f fs v w k e = RefusesLast errors (means n) own c v w k e ⊎ RefusesStepItem r took_before c f fs v w k e
 
-  -- one of this number of steps refuses
+  -- one of so many steps refuses
   abbrev pub steps_refuse : ℕ → Bool → F → List F → Refusing P T E
   steps_refuse zero c f fs v w k e = ⊥
   steps_refuse (suc n) c f fs v w k e = (p : N) × answers f p × step_refuses (steps_refuse n) p (refusals (means p)) (means p).whole false c f fs v w k e
@@ -186,7 +186,7 @@ module _ {P T R F I V N U E : Type 0} (step : P → T → P) (errors : Observers
   abbrev pub whole_refuses : Refusing P T E
   whole_refuses v w k e = (f : F) × roots f × runs_refuse false f [] v w k e
 
-  -- the remaining refusals while a step's parser is running
+  -- what is left refuses where a step's parser runs
   abbrev pub running_step_refuses : RunningStep F N U → Refusing P T E
   running_step_refuses l v w k e = step_refuses runs_refuse l.parser (refusals_from (means l.parser) l.state) ((means l.parser).rest l.state) l.took_before l.committed l.frames.top (frames_around l.frames) v w k e
 
@@ -194,7 +194,7 @@ module _ {P T R F I V N U E : Type 0} (step : P → T → P) (errors : Observers
   nested_refuses states.Start v w k e = whole_refuses v w k e
   nested_refuses (states.Running l) v w k e = running_step_refuses l v w k e
 
-  -- The error of a refusal, from a state: that of a step's parser, explained if it was peeked, or a message at the place where a step began.
+  -- The error of a refusal, from a state: that of a step's parser, explained where it was peeked, or a message at the place where a step began.
   pub record RefusesNested (from : NestedState F N U) (v w : View P T) (committed : Bool) (e : E) : Type 0 where
     pub is : nested_refuses from v w committed e
 
@@ -249,7 +249,7 @@ module _ {P T V : Type 0} where
   }
 
 module _ {P T R E F I V N U : Type 0} (step : P → T → P) (errors : Observers T R P E) (depth : ℕ) (roots : F → Type 0) (answers : F → N → Type 0) (takes : F → I → Next F V → Type 0) (joins : F → V → Next F V → Type 0) (some : N → Type 0) (means : N → Meaning P T R E I U) where
-  -- steps from the outermost frame on; a kept parser has the meaning of one that may be returned
+  -- steps from the outermost frame on; a kept parser means what one of those does that may be answered
   abbrev pub nesting : Meaning P T R E V (NestedState F N U)
   nesting = record {
     whole = nested_whole step depth roots answers takes joins some means;

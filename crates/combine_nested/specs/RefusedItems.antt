@@ -1,4 +1,4 @@
--- why an expression is refused, by the things read of it
+-- why an expression is refused, by the things that were read of it
 use Rattle.std.specs.Prelude.{◌≡◌, ◌<◌, ◌⊎◌, ℕ, Bool, true, false, nat_lt, List, [], ◌∷◌, ◌++◌, codes, length, refl}
 use Rattle.std.proofs.Common.{subst, sym, ◌∙◌, ap, append_assoc, append-nil, Bor, inl, inr}
 use Rattle.combine_base.specs.Stream.View.{View}
@@ -18,14 +18,14 @@ use Rattle.combine_nested.specs.RefusedSteps.{RefusedStep, RefusesItems, frame_r
 use Rattle.combine_nested.specs.SpelledItems.{ReadOf, Spelled, begins_so, read_of, steps_read}
 
 module _ {O V : Type 0} (levels : List Fixity) (changes : O → V → V → Type 0) (joins : O → V → V → V → Type 0) (refuses_operand : O → V → List ℕ → Type 0) (refuses_operands : O → V → V → List ℕ → Type 0) where
-  -- why things don't go on, with a message: no expression begins with them and one more, or they are no expression; or an operator refuses its operands, which are complete there
+  -- why nothing goes on these things, with a message: no expression begins with them and one more, or they are none; or an operator refuses its operands, which are complete there
   pub data DeniesThings (things : List (Thing O V)) (message : List ℕ) : Type 0 where
     misfits : (t : Thing O V) → message ≡ misfit_text t → ((us : List (Thing O V)) (w : V) → IsExpression levels changes joins 0 (things ++ t ∷ us) w → ⊥) → DeniesThings things message
     ends_early : message ≡ codes "operand expected" → ((w : V) → IsExpression levels changes joins 0 things w → ⊥) → DeniesThings things message
     refused_in_front : (t : Thing O V) → refused_before refuses_operand refuses_operands changes joins levels (λ ts. ts ≡ things) t message → DeniesThings things message
     refused_at_end : WaitingRefuses refuses_operand refuses_operands changes joins levels (λ ts. ts ≡ things) (λ _. Unit {0}) message → DeniesThings things message
 
-  -- some of the items read are the things of a part that refuses
+  -- of the items that were read, some are the things of a part that refuses
   pub record DeniesItems (is : List (Item O V)) (message : List ℕ) : Type 0 where
     pub before : List (Item O V)
     pub since : List (Item O V)
@@ -64,7 +64,7 @@ module _ {O V : Type 0} (levels : List Fixity) (changes : O → V → V → Type
     end_denied p is r m (inl w) = ends_early w.says (λ v x. w.none r.things v r.stands (subst (λ ls. IsExpression ls changes joins 0 r.things v) (sym r.has_levels) x))
     end_denied p is r m (inr w) = refused_at_end (waits_there p is r m (λ _. Unit {0}) w)
 
-    -- the items read of the innermost part
+    -- those that were read of the innermost part
     innermost_read : (p : Part O V N) (ps : List (Part O V N)) (is : List (Item O V)) → reads p ps is → (before : List (Item O V)) × ((since : List (Item O V)) × ReadOf levels changes joins p since × (is ≡ before ++ since))
     innermost_read p [] is r = ([], (is, r, refl))
     innermost_read p (q ∷ qs) is r = (r.0 ++ items.Open ∷ [], (r.1.0, r.1.2, r.1.3 ∙ sym (append_assoc r.0 (items.Open ∷ []) r.1.0)))
@@ -87,7 +87,7 @@ module _ {O V : Type 0} (levels : List Fixity) (changes : O → V → V → Type
     not_denied true p q ps text e = cc
     not_denied false p q ps text e = cc
 
-    -- the value of a part in brackets is an operand that the part around it refuses
+    -- the value of a part in brackets is an operand that the part round it refuses
     joined_denied : (o : Part O V N) (os : List (Part O V N)) (is behind : List (Item O V)) (v : V) (x : Next (Part O V N) V) (text : List ℕ) → joins_value o v x → settles_frames depth joins_value os x (Denied text) → reads o os is → DeniesItems (is ++ behind) text
     joined_denied o os is behind v (nexts.Stay q) text j e r = absurd (cc)
     joined_denied o os is behind v (nexts.Open a b) text j e r = absurd j
@@ -109,7 +109,7 @@ module _ {O V : Type 0} (levels : List Fixity) (changes : O → V → V → Type
       abbrev refused_step : Part O V N → List (Part O V N) → View P T → Type 0
       refused_step = RefusedStep step depth (BeginsPart levels false) answers takes_item joins_value some means
 
-      -- if a part refuses, its items are denied
+      -- where a part refuses, it is for what was read of one
       abbrev pub denied_by : (is : List (Item O V)) (p : Part O V N) (ps : List (Part O V N)) (v : View P T) → refused_step p ps v → Type 0
       denied_by is p ps v (parser_refuses c r) = Unit {0}
       denied_by is p ps v (frame_refuses i n c x text r t s) = DeniesItems is text
@@ -123,7 +123,7 @@ module _ {O V : Type 0} (levels : List Fixity) (changes : O → V → V → Type
         pub run : RefusesItems step depth (BeginsPart levels false) answers takes_item joins_value some means part [] v
         pub denies : denied_by run.items run.top run.others run.place run.refused
 
-      -- each refused run has such steps
+      -- so is each run that is refused
       abbrev pub RefusesExpressions : Reading P T V → Type 0
       RefusesExpressions whole = (v : View P T) (c : Bool) → whole v (Refused c) → RefusesExpression v
 

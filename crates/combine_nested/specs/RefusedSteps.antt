@@ -20,7 +20,7 @@ module _ {P T R E F I V N U : Type 0} (step : P → T → P) (depth : ℕ) (root
   abbrev pub Steps : F → List F → View P T → List I → ℕ → F → List F → View P T → Type 0
   Steps = accepted.Steps step depth roots answers takes joins some means
 
-  -- why a step is refused: its parser refuses; or its item was read, and a frame refuses with a message, or a frame too many is opened, or no token was taken, with as many frames as before
+  -- why a step is refused: its parser refuses; or its item was read, and a frame refuses with a message, or a frame too many is opened, or no token was taken, with as many frames as there were
   pub data RefusedStep (f : F) (fs : List F) (v : View P T) : Type 0 where
     parser_refuses : (c : Bool) → reads_item f v (Refused c) → RefusedStep f fs v
     frame_refuses : (i : I) (n : ℕ) (c : Bool) (x : Next F V) (text : List ℕ) → reads_item f v (Accepted i n c) → takes f i x → settles_frames depth joins fs x (Denied text) → RefusedStep f fs v

@@ -1,4 +1,4 @@
--- which things fit, by their kinds and levels only
+-- where things fit, by their kinds and their levels alone
 use Rattle.std.specs.Prelude.{ℕ, suc, Bool, true, false, cond, nat_le, nat_lt, Option, Some, None, List, [], ◌∷◌, length, slice_get}
 use Rattle.combine_nested.specs.declared.expression.Fixity.{Fixity}
 use Rattle.combine_nested.specs.declared.expression.Fixity.TheVariants as fixities
@@ -37,12 +37,12 @@ abbrev pub needs_level : List Slot → ℕ
 needs_level [] = 0
 needs_level (s ∷ ss) = s.asks
 
--- the innermost gets the operand as long as it requires a higher level
+-- the innermost is given the operand as long as it asks for a higher level
 abbrev pub reduce_to : ℕ → List Slot → ℕ → ReducedShape
 reduce_to q [] h = record { slots = []; level = h }
 reduce_to q (s ∷ ss) h = cond (nat_lt q s.asks) (reduce_to q ss s.level) (record { slots = s ∷ ss; level = h })
 
--- a prefix operator fits if its level is the required one or a higher one
+-- a prefix operator fits that is of the level that is asked for, or a higher one
 abbrev pub fits_in_front : Option Fixity → ℕ → ℕ → Bool
 fits_in_front None a p = false
 fits_in_front (Some fixities.Prefix) a p = nat_le a p
@@ -51,7 +51,7 @@ fits_in_front (Some fixities.Left) a p = false
 fits_in_front (Some fixities.Right) a p = false
 fits_in_front (Some fixities.Neither) a p = false
 
--- a postfix operator fits after an operand of its level, or a higher one
+-- a postfix operator fits behind an operand of its level, or a higher one
 abbrev pub fits_behind : Option Fixity → ℕ → ℕ → Bool
 fits_behind None h p = false
 fits_behind (Some fixities.Prefix) h p = false
@@ -60,12 +60,12 @@ fits_behind (Some fixities.Left) h p = false
 fits_behind (Some fixities.Right) h p = false
 fits_behind (Some fixities.Neither) h p = false
 
--- an operator waits, if it fits
+-- an operator waits, where it fits
 abbrev pub waits_if : Bool → List Slot → ℕ → ℕ → Option Shape
 waits_if true ss p a = Some (record { slots = record { level = p; asks = a } ∷ ss; held = None })
 waits_if false ss p a = None
 
--- an operand is held, if it fits
+-- an operand is held, where it fits
 abbrev pub holds_if : Bool → List Slot → ℕ → Option Shape
 holds_if true ss p = Some (record { slots = ss; held = Some p })
 holds_if false ss p = None
@@ -79,14 +79,14 @@ and_then None f = None
 and_then (Some s) f = f s
 
 module _ {O V : Type 0} (levels : List Fixity) where
-  -- the shape after a thing that fits in place of an operand
+  -- what fits where an operand is awaited
   abbrev pub fit_awaited : List Slot → Thing O V → Option Shape
   fit_awaited ss (Operand v) = Some (record { slots = ss; held = Some (length levels) })
   fit_awaited ss (Prefix p o) = waits_if (fits_in_front (slice_get levels p) (needs_level ss) p) ss p p
   fit_awaited ss (Postfix p o) = None
   fit_awaited ss (Infix p o) = None
 
-  -- and after an operand
+  -- and what fits behind one
   abbrev pub fit_behind : List Slot → ℕ → Thing O V → Option Shape
   fit_behind ss h (Operand v) = None
   fit_behind ss h (Prefix p o) = None
@@ -97,7 +97,7 @@ module _ {O V : Type 0} (levels : List Fixity) where
   fit ss None t = fit_awaited ss t
   fit ss (Some h) t = fit_behind ss h t
 
-  -- things that fit one after another
+  -- things that fit one behind another
   abbrev pub fits : List (Thing O V) → Shape → Option Shape
   fits [] s = Some s
   fits (t ∷ ts) s = and_then (fit s.slots s.held t) (fits ts)

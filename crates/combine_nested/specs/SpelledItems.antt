@@ -1,4 +1,4 @@
--- the items of an accepted expression spell an expression of the lowest level, with its value
+-- the items of an accepted expression spell one of the lowest level, of its value
 use Rattle.std.specs.Prelude.{◌≡◌, ℕ, Bool, true, false, nat_lt, Option, Some, None, List, [], ◌∷◌, ◌++◌, length, reverse, vec_items, refl}
 use Rattle.std.proofs.Common.{subst, sym, ◌∙◌, ap, append_assoc, append-nil}
 use Rattle.combine_base.specs.Stream.View.{View, advanced}
@@ -20,7 +20,7 @@ use Rattle.combine_nested.specs.Shapes.{Shape, start}
 use Rattle.combine_nested.specs.OpenExpressions.{AddsThing, StandsIn, held_level, shape_of, shapes, stands}
 
 module _ {O V : Type 0} (levels : List Fixity) (changes : O → V → V → Type 0) (joins : O → V → V → V → Type 0) where
-  -- items read one after another, and their things: a part in brackets is an operand with its value
+  -- items that are read one after another, and the things that they come to: what is in brackets is an operand, of its value
   pub data Spelled : List (Item O V) → List (Thing O V) → Type 0 where
     no_item : Spelled [] []
     operand : (is : List (Item O V)) (ts : List (Thing O V)) (v : V) → Spelled is ts → Spelled (is ++ items.Operand v ∷ []) (ts ++ Operand v ∷ [])
@@ -29,7 +29,7 @@ module _ {O V : Type 0} (levels : List Fixity) (changes : O → V → V → Type
     infix_item : (is : List (Item O V)) (ts : List (Thing O V)) (l : ℕ) (o : O) → Spelled is ts → Spelled (is ++ items.Infix l o ∷ []) (ts ++ Infix l o ∷ [])
     brackets : (is js : List (Item O V)) (ts us : List (Thing O V)) (v : V) → Spelled is ts → Spelled js us → IsExpression levels changes joins 0 us v → Spelled (is ++ items.Open ∷ (js ++ items.Close ∷ [])) (ts ++ Operand v ∷ [])
 
-  -- items that are an expression of this value, and its end
+  -- items that are an expression of that value, and its end
   pub record Spells (is : List (Item O V)) (v : V) : Type 0 where
     pub before : List (Item O V)
     pub things : List (Thing O V)
@@ -38,19 +38,19 @@ module _ {O V : Type 0} (levels : List Fixity) (changes : O → V → V → Type
     pub are : is ≡ before ++ items.Close ∷ []
 
   module _ {N : ℕ} where
-    -- the items read of a part since it began
+    -- what was read of a part since it began
     pub record ReadOf (part : Part O V N) (is : List (Item O V)) : Type 0 where
       pub things : List (Thing O V)
       pub spelled : Spelled is things
       pub stands : StandsIn changes joins part.operands things
       pub has_levels : part.operands.levels ≡ levels
 
-    -- the items read while these parts are open, the innermost first
+    -- what was read while these parts are open, the innermost first
     abbrev pub read_of : Part O V N → List (Part O V N) → List (Item O V) → Type 0
     read_of p [] is = ReadOf p is
     read_of p (q ∷ qs) is = (before : List (Item O V)) × ((since : List (Item O V)) × read_of q qs before × ReadOf p since × (is ≡ before ++ items.Open ∷ since))
 
-    -- more items read of the innermost part
+    -- more was read of the innermost
     read_more : (p q : Part O V N) (ps : List (Part O V N)) (is js : List (Item O V)) → ((ks : List (Item O V)) → ReadOf p ks → ReadOf q (ks ++ js)) → read_of p ps is → read_of q ps (is ++ js)
     read_more p q [] is js h r = h is r
     read_more p q (o ∷ ps) is js h r = (r.0, (r.1.0 ++ js, r.1.1, h r.1.0 r.1.2, ap (λ k. k ++ js) r.1.3 ∙ append_assoc r.0 (items.Open ∷ r.1.0) js))
@@ -116,7 +116,7 @@ module _ {O V : Type 0} {N : ℕ} (levels : List Fixity) (changes : O → V → 
   open_so p ps before items.Close q s t r = absurd t
   open_so p ps before items.Open q s t r = (before, ([], subst (λ k. reads k ps before) (sym t.0) r, begins_so levels changes joins s true (subst (λ k. BeginsPart k true s) (levels_of p ps before r) t.1), refl))
 
-  -- the value of a closed part
+  -- what a part that is closed is worth
   worth : (p : Part O V N) (i : Item O V) (v : V) → takes_item p i (nexts.Close v) → (i ≡ items.Close) × ((is : List (Item O V)) (r : ReadOf levels changes joins p is) → IsExpression levels changes joins 0 r.things v)
   worth p (items.Operand w) v t = absurd t
   worth p (items.Prefix l o) v t = absurd t
@@ -126,7 +126,7 @@ module _ {O V : Type 0} {N : ℕ} (levels : List Fixity) (changes : O → V → 
   worth p items.Close v t = (refl, λ is r. subst (λ k. IsExpression k changes joins 0 r.things v) r.has_levels (t.is_expression r.things r.stands))
 
   module _ (p o : Part O V N) (ps : List (Part O V N)) (v : V) (worthy : (is : List (Item O V)) (r : ReadOf levels changes joins p is) → IsExpression levels changes joins 0 r.things v) where
-    -- the value of a part in brackets is an operand of the part around it
+    -- the value of a part in brackets is an operand of the part round it
     joined_to : (before : List (Item O V)) (x : Next (Part O V N) V) (q : Part O V N) (qs : List (Part O V N)) → joins_value o v x → comes_to ps x (Opened q qs) → reads p (o ∷ ps) before → reads q qs (before ++ items.Close ∷ [])
     joined_to before (nexts.Stay s) q qs j e r =
         let a : q ≡ s = cc in
@@ -181,20 +181,20 @@ module _ {O V : Type 0} {N : ℕ} (levels : List Fixity) (changes : O → V → 
   last_so p ps before i (nexts.Refuse m) w t e r = absurd (cc)
 
   module _ {P T R E M U : Type 0} (step : P → T → P) (roots : Part O V N → Type 0) (answers : Part O V N → M → Type 0) (some : M → Type 0) (means : M → Meaning P T R E (Item O V) U) where
-    -- the items read by the steps are read of the parts that are then open
+    -- what is read by the steps is read of the parts that are then open
     pub steps_read : (p : Part O V N) (ps : List (Part O V N)) (v : View P T) (is : List (Item O V)) (n : ℕ) (q : Part O V N) (qs : List (Part O V N)) (u : View P T) → Steps step depth roots answers takes_item joins_value some means p ps v is n q qs u → (before : List (Item O V)) → reads p ps before → reads q qs (before ++ is)
     steps_read _ _ _ _ _ _ _ _ (no_step p ps v) before r = subst (reads p ps) (sym (append-nil before)) r
     steps_read _ _ _ _ _ _ _ _ (one_more p ps v i n c x q qs is m o os u w t e a) before r = subst (reads o os) (append_assoc before (i ∷ []) is) (steps_read q qs (advanced step n v) is m o os u a (before ++ i ∷ []) (next_so p ps before i x q qs t e r))
 
   module _ {P T R E M U : Type 0} (step : P → T → P) (answers : Part O V N → M → Type 0) (some : M → Type 0) (means : M → Meaning P T R E (Item O V) U) where
-    -- the steps of a run that takes this number of tokens, and their items, which spell an expression of its value
+    -- the steps of a run that takes so many tokens, and the items that they read, which spell an expression of its value
     pub record ReadsExpression (v : View P T) (w : V) (taken : ℕ) : Type 0 where
       pub part : Part O V N
       pub begins : BeginsPart levels false part
       pub run : ReadsItems step depth (BeginsPart levels false) answers takes_item joins_value some means part [] v w taken
       pub spells : Spells levels changes joins (run.items ++ run.last ∷ []) w
 
-    -- each accepted run has such steps
+    -- so is each run that is accepted
     abbrev pub AcceptsExpressions : Reading P T V → Type 0
     AcceptsExpressions whole = (v : View P T) (w : V) (n : ℕ) (c : Bool) → whole v (Accepted w n c) → ReadsExpression v w n
 

@@ -1,4 +1,4 @@
--- the contract of a run of one step's parser
+-- what a run of one step's parser promises
 use Rattle.std.specs.Prelude.{codes, ◌≡◌, ℕ, ◌⊎◌, ◌||◌, Bool, true, false, nat_lt, List, length}
 use Rattle.combine_base.specs.Error.Errors.{Observers}
 use Rattle.combine_base.specs.Parser.Answer.{Answers, world}
@@ -37,12 +37,12 @@ module _ {T R P V E : Type 0} (observers : Observers T R P E) (place : P) (text 
   denies committed (CommitErr e) = (observers.kind e ≡ kinds.Memory) ⊎ ((observers.kind e ≡ kinds.Refused) × (committed ≡ true) × IsRefusalSaying observers place text e)
   denies committed (PeekErr t) = (observers.kind t.error ≡ kinds.Refused) × (committed ≡ false) × IsRefusalSaying observers place text t.error
 
-  -- a frame's refusal with this message, committed if a step was, or out of memory for the message
+  -- a frame's refusal with that message, committed where a step was, or want of memory for the message
   pub record Denies (committed : Bool) (result : ParseResult V E) : Type 0 where
     pub is : denies committed result
 
 module _ {F I V : Type 0} (depth : ℕ) (takes : F → I → Next F V → Type 0) (joins : F → V → Next F V → Type 0) where
-  -- the innermost frame takes an item, with these frames after it
+  -- the innermost frame takes an item, and that becomes of the frames
   pub record TakesItem (f : F) (fs : List F) (item : I) (e : FramesChange F V) : Type 0 where
     pub next : Next F V
     pub taken : takes f item next
@@ -52,12 +52,12 @@ module _ {F I V : Type 0} (depth : ℕ) (takes : F → I → Next F V → Type 0
     abbrev pub takes_to : FramesChange F V → Type 0
     takes_to = TakesItem frames.top (frames_around frames) item
 
-    -- a refusal that is always committed: a frame too many, or no token taken and as many frames as before
+    -- a refusal that is committed whatever was before: a frame too many, or no token taken and as many frames as there were
     pub data StepRefuses (e : E) : Type 0 where
       IsTooDeep : (taken : takes_to TooDeep) (tells : IsRefusalSaying observers place (codes "nesting too deep") e) → StepRefuses e
       TakesNothing : (f : F) (fs : List F) (taken : takes_to (Opened f fs)) (stays : (took || nat_lt (length fs) (length (frames_around frames))) ≡ false) (tells : IsRefusalSaying observers place (codes "repetition takes nothing") e) → StepRefuses e
 
-    -- a frame's own refusal, with its message
+    -- a frame's own, with its message
     pub record FrameRefuses (e : E) : Type 0 where
       pub text : List ℕ
       pub taken : takes_to (Denied text)
@@ -69,13 +69,13 @@ module _ {F I V : Type 0} (depth : ℕ) (takes : F → I → Next F V → Type 0
     stops_so (CommitErr e) = (observers.kind e ≡ kinds.Memory) ⊎ ((observers.kind e ≡ kinds.Refused) × (StepRefuses e ⊎ (FrameRefuses e × (committed ≡ true))))
     stops_so (PeekErr t) = (observers.kind t.error ≡ kinds.Refused) × FrameRefuses t.error × (committed ≡ false)
 
-    -- the effect of an item's step, given whether it or one before was committed
+    -- what an item's step did, where it or one before was committed
     abbrev pub step_item_did : Did F V E → Type 0
     step_item_did (dids.Goes next c) = takes_to (Opened next.top (frames_around next)) × ((took || nat_lt (length (frames_around next)) (length (frames_around frames))) ≡ true) × (c ≡ committed)
     step_item_did (dids.Stops answer) = stops_so answer
 
 module _ {F I V N Input U Checkpoint T R P E : Type 0} (p : parser.Ghosts N Input U I Checkpoint T R P E) (i : stream.Ghosts Input T R P E) (observers : Observers T R P E) (fresh : U → Type 0) (depth : ℕ) (takes : F → I → Next F V → Type 0) (joins : F → V → Next F V → Type 0) where
-  -- need of more keeps the step's parser as it now is, with the state in which it stopped, and whether it took a token; every other result leaves a default state
+  -- need of more keeps the step's parser as it now is, with the state in which it stopped, and whether it took a token; every other answer leaves a state that begins
   pub record KeepsStep (input left : Input) (from : RunningStep F N U) (parser : N) (stopped : U) (state : NestedState F N U) : Type 0 where
     pub took_before : Bool
     pub is : state ≡ states.Running (record { frames = from.frames; committed = from.committed; took_before = took_before; parser = parser; state = stopped })

@@ -1,4 +1,4 @@
-//! Grammars that nest, with their open frames in memory, and expressions of operators.
+//! Grammars that nest, with their frames in memory, and expressions of operators.
 #![tactic(auto)]
 
 pub mod expression;

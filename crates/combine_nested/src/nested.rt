@@ -1,6 +1,6 @@
 //! Grammars that nest, with their open frames in memory.
 //!
-//! A grammar that nests is read step by step. Its open constructs are a stack of frames of the caller's type: an array before its end, a bracket, an operator before its operand. The innermost frame chooses the parser of the next step and takes its item: it stays, opens a frame inside itself, refuses, or closes with a value, which the frame around it gets.
+//! A grammar that nests is read step by step. What is open is a stack of frames of a caller's own type: an array whose elements come, a bracket, an operator that waits for its operand. The innermost frame chooses the parser of the next step, and takes its item: it goes on, opens a frame inside itself, is closed with a value, which the frame round it is given, or refuses.
 //!
 //! Nothing recurses, so no input overflows the call stack, and a parse goes on at the step where a piece ended.
 ghost use Rattle.std.specs.Prelude.{◌≡◌, MatchResult};
@@ -15,81 +15,81 @@ use asked::{Always, AlwaysWith, IfElse};
 use std::alloc::{AllocError, Global};
 use types::Nested;
 
-/// The result of a frame's `take` or `join`.
+/// What comes of a frame that was given something.
 #[derive(Drop)]
 pub enum Next<F, V> {
-    /// It goes on as this frame.
+    /// It goes on as this one.
     Stay(F),
-    /// It goes on as the first frame, and the second opens inside it.
+    /// It goes on as the first, and the second is opened inside it.
     Open(F, F),
-    /// It closes with this value, which the frame around it gets; the outermost frame's is the value of `nested`.
+    /// It is closed with this value, which the frame round it is given; that of the outermost is the value of all.
     Close(V),
     /// It refuses, with this message.
     Refuse(&'static str),
 }
 
-/// An open frame.
+/// A frame that is open.
 ///
-/// Each method takes the frame, and returns its result, or `AllocError` if it is out of memory.
+/// Each method takes the frame, and returns what comes of it, or `AllocError` if memory isn't found.
 pub trait Frame: Drop {
     ghost use Rattle.std.specs.Prelude.{MatchResult, ◌≡◌};
     ghost use Rattle.combine_nested.specs.declared.nested.Next.{Next};
 
-    /// The type of a step's item.
+    /// What a step reads.
     type Item: Drop;
 
-    /// The type of a closed frame's value.
+    /// What a frame that is closed is worth.
     type Value: Drop;
 
-    /// The results that `take` may have for an item. A frame that doesn't define it promises nothing.
+    /// What may come of an item. A frame that doesn't define it promises nothing.
     ghost takes: { Self → Self.Item → Next Self Self.Value → Type 0 } = { λ _ _ _. Unit {0} };
 
-    /// The results that `join` may have for the value of a frame inside this one. A frame that doesn't define it promises nothing.
+    /// What may come of the value of a frame that was opened inside this one. A frame that doesn't define it promises nothing.
     ghost joins: { Self → Self.Value → Next Self Self.Value → Type 0 } = { λ _ _ _. Unit {0} };
 
-    /// Frames that no caller can tell apart, for a grammar with one outcome: their results are alike too. A frame that doesn't define it is alike only to itself.
+    /// Frames that differ in nothing that a caller can tell, for a grammar that is to have one outcome: what comes of them is alike too. A frame that doesn't define it is alike itself alone.
     ghost alike: { Self → Self → Type 0 } = { λ f g. f ≡ g };
 
-    /// Items for which frames have alike results.
+    /// Items that frames take alike.
     ghost alike_items: { Self.Item → Self.Item → Type 0 } = { λ a b. a ≡ b };
 
-    /// Values for which frames have alike results.
+    /// Values that frames are given alike.
     ghost alike_values: { Self.Value → Self.Value → Type 0 } = { λ v w. v ≡ w };
 
-    /// Takes an item that was read while this was the innermost frame.
+    /// Takes an item that was read while this was the innermost frame, and returns what comes of it.
     fn take(self, item: Self::Item) -> Result<Next<Self, Self::Value>, AllocError>
         ensures { MatchResult result (takes self item) (λ _. Unit {0}) };
 
-    /// Takes the value with which a frame inside this one was closed.
+    /// Takes the value with which a frame inside this one was closed, and returns what comes of it.
     fn join(self, value: Self::Value) -> Result<Next<Self, Self::Value>, AllocError>
         ensures { MatchResult result (joins self value) (λ _. Unit {0}) };
 }
 
-/// Parses steps, one after another, over open frames, at most `depth` of them inside the outermost.
+/// Parses steps, one after another, over frames that are open inside one another, at most `depth` of them inside the outermost.
 ///
 /// `root: Fn() -> F, F: Frame`, or a `Maker`.
 /// `step: Fn(&F) -> N, N: Parser<Input, Output = F::Item>`, or a `RefFunction`, as `always`, `always_with` and `if_else` return.
 ///
-/// A closure for `step` has to write its parameter's type, as `|_: &Brackets| ..`. `root` makes the outermost frame. `step` returns the parser of each step for the innermost frame, which takes its item: a function of the frame, or [`always`] and [`always_with`] for the same parser at each step, or [`if_else`] for one of two. The value is that with which the outermost frame is closed; it is committed exactly if a step was.
+/// A closure for `step` has to write its parameter's type, as `|_: &Brackets| ..`. `root` makes the outermost frame. `step` returns the parser of each step, by the innermost frame, which takes its item: a function of the frame, or [`always`] and [`always_with`] for the same parser at each step, or [`if_else`] for one of two. The value is that with which the outermost frame is closed; it is committed exactly if a step was.
 ///
-/// Open frames are stored in memory of `alloc`, one after another. To give a frame the position of an item, read it with the item, as `(position(), item)`.
+/// Open frames are kept in memory of `alloc`, one after another. To give a frame the place at which an item stood, read it with the item, as `(position(), item)`.
 ///
 /// # Errors
 ///
-/// - Refusals of a step's parser are refusals, committed if a step before was.
-/// - Refusals of a frame have its message, and are committed if this step or one before was.
+/// - What a step's parser refuses is refused, committed if a step before it was.
+/// - What a frame refuses is refused with its message, committed if this step or one before it was.
 /// - A frame too many is refused committed, with the message `nesting too deep`.
 /// - A step that takes no token is refused committed, with `repetition takes nothing`, unless fewer frames are open than before it.
 ///
-/// Messages are at the position where the step began, or, after a cut, where it was resumed.
+/// Messages stand at the position where the step began, in the piece in which it ends.
 ///
 /// # Partial input
 ///
-/// The state keeps the open frames and the running step. No token is left unread if the steps' parsers leave none.
+/// The state keeps the open frames and the step that runs. Nothing is left unread where the parsers of the steps leave nothing.
 ///
 /// # Examples
 ///
-/// This counts the pairs of brackets inside others. `brackets.rt` of `example_callers` has all of it, with its contract.
+/// How many pairs of brackets stand inside others. `brackets.rt` of `example_callers` has it whole, with what is promised of it.
 ///
 /// ```
 /// fn take(self, item: u8) -> Result<Next<Brackets, u64>, AllocError> {
@@ -131,9 +131,9 @@ pub fn nested<R, S>(alloc: Global, depth: usize, root: R, step: S) -> Nested<R, 
     }
 }
 
-/// Returns a function of frames that gives the same parser at each step.
+/// Returns the same parser at each step.
 ///
-/// The parser has to be `Copy`. That of a class (except `char::digit`), a text, a list of tokens, an integer or a range isn't, nor are `iterate`, `spanned`, `expected`, `message`, `silent` and `unexpected`: [`always_with`] makes one of these anew at each step.
+/// The parser has to be `Copy`. That of a class (but `char::digit`), a text, a list of tokens, an integer or a range isn't, nor are `iterate`, `spanned`, `expected`, `message`, `silent` and `unexpected`: [`always_with`] makes one of these anew at each step.
 #[inline]
 pub fn always<P>(parser: P) -> Always<P>
     ensures { result ≡ always_of parser }
@@ -141,7 +141,7 @@ pub fn always<P>(parser: P) -> Always<P>
     Always(parser)
 }
 
-/// Returns a function of frames that gives `maker`'s parser at each step, as `always_with(|| expected(digit(), "digit"))`.
+/// Returns the parser that `maker` makes at each step, as `always_with(|| expected(digit(), "digit"))`.
 #[inline]
 pub fn always_with<M>(maker: M) -> AlwaysWith<M>
     ensures { result ≡ always_with_of maker }
@@ -149,7 +149,7 @@ pub fn always_with<M>(maker: M) -> AlwaysWith<M>
     AlwaysWith(maker)
 }
 
-/// Returns a function of frames that gives `first`'s parser if `test` is true, else `second`'s.
+/// Returns what `first` does where `test` holds of the innermost frame, and else what `second` does.
 ///
 /// `test: Fn(&F) -> bool`, or a `RefFunction`.
 /// `first: Fn(&F) -> N, N: Parser<Input>`, or a `RefFunction`, as `always`, `always_with` and `if_else` return; so is `second`.

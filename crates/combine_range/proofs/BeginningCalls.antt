@@ -1,4 +1,4 @@
--- calls for the longest beginning under a predicate, after a kept distance
+-- calls for the longest beginning under a test, some items later
 use Rattle.std.proofs.Common.{ℕ, zero, suc, ◌+◌, ◌<◌, ◌≤◌, ◌≡◌, List, [], Bool, true, false, nat_lt, if◌then◌else◌, take, drop, length, arith, ap, sym, subst, refl, ◌∙◌, lt-ltb, length-drop}
 use Rattle.std.specs.Prelude.{Ok}
 use Rattle.std.proofs.lemmas.List.{drop_all, take_all}
@@ -17,7 +17,7 @@ use Rattle.combine_range.specs.PeekedRefusals.{RefusesPeeked}
 use Rattle.combine_range.specs.Range.Beginnings.{ReachesLongest, WaitsInBeginning, Empty, beginning, beginning_resumes}
 use Rattle.combine_range.proofs.KeptDistance.{distance_accepts, distance_refuses, distance_asks_from, distance_hands_over}
 
--- d items were skipped, and then the longest beginning was read
+-- d items were passed over, and then the longest beginning
 pub record Walked {P T : Type 0} (counts_failures : Type 0) (step : P → T → P) (size : T → ℕ) (f : T → Bool → Type 0) (d : ℕ) (old v : View P T) (before g : Failures) : Type 0 where
   pub count : ℕ
   pub reaches : ReachesLongest size f d old.unread count
@@ -33,7 +33,7 @@ module _ {P T R Q : Type 0} {counts_failures : Type 0} {step : P → T → P} {s
     failures = λ s. u.is.2.failures s ∙ p.is.2.failures s;
   }
 
-  -- without a kept distance, it is the range that was read
+  -- where no distance was kept, it is the range that was read
   pub direct : ((t : T) → 0 < size t) → d ≤ 0 → spells q (take walked.count old.unread)
   unfolding walked
   direct filled l =
@@ -48,7 +48,7 @@ some_before size us d zero p h = absurd (let e = p.items in omega arith)
 some_before size us d (suc k) p h = omega arith
 
 module _ {P T R E : Type 0} (w : World P T Distance E) (size : T → ℕ) (filled : (t : T) → 0 < size t) (spells : R → List T → Type 0) (f : T → Bool → Type 0) (some : Bool) (adds : List (ErrorItem T R) → Type 0) (says : ℕ → Refusing P T E) (r : CallRecord P T Distance) (d : ℕ) (e : d ≡ (if r.first then 0 else r.state.items)) (v : View P T) (g : Failures) (z : Walked w.counts_failures w.step size f d r.old v r.before g) where
-  -- all of an open stream is taken, and put back
+  -- all is taken of an open stream, and put back
   pub beginning_keeps : (state : Distance) (result : ParseResult R E) → KeepsItemDistance w.counts_failures w.step size r.old r.new g r.after z.count w.kind state r.left result → w.fresh state → r.before.reads ≤ g.reads → r.before.resets ≤ g.resets → v.is_open ≡ true → v.unread ≡ [] → Answers w (kept size (beginning size spells f some) adds says) r result
   beginning_keeps state result j l a b o n =
       let m : length r.old.unread ≤ z.count = let a = ap length (sym (ap (λ (y : View P T). y.unread) z.taken.rest) ∙ n) in let c = length-drop z.count r.old.unread in omega arith in
@@ -57,7 +57,7 @@ module _ {P T R E : Type 0} (w : World P T Distance E) (size : T → ℕ) (fille
       distance_asks_from w size (beginning size spells f some) adds says r d e z.count state v g result j z.taken l a b z.failures y.is_open y (λ i t. beginning_resumes size spells f some filled d i r.old y (t ∙ ap (size_of size) (take_all z.count r.old.unread m)))
 
   module _ (h : v.is_open ≡ true → v.unread ≡ [] → ⊥) where
-    -- something follows, or the list has ended
+    -- something follows, or nothing can
     stops : r.old.is_open ≡ true → z.count < length r.old.unread
     stops o = by_order (λ l. h (takes_open w.step z.count r.old v z.taken ∙ o) (ap (λ (y : View P T). y.unread) z.taken.rest ∙ drop_all z.count r.old.unread l))
       where
@@ -77,7 +77,7 @@ module _ {P T R E : Type 0} (w : World P T Distance E) (size : T → ℕ) (fille
     pub beginning_refuses : (result : ParseResult R E) → RefusesPeeked w.kind w.heapless v.is_open result → z.count ≡ 0 → some ≡ true → Takes w.step z.count r.old r.new → w.fresh r.left → (w.counts_failures → r.after ≡ r.before) → Answers w (kept size (beginning size spells f some) adds says) r result
     beginning_refuses result i l b t y s = distance_refuses w size (beginning size spells f some) adds says r d e result (subst (λ o. RefusesPeeked w.kind w.heapless o result) (takes_open w.step z.count r.old v z.taken) i) (Empty (subst (ReachesLongest size f d r.old.unread) l z.reaches) (λ o. let a = stops o in omega arith) b, refl) (record { count = z.count; taken = t }) y s
 
--- a range that was read again has items if tokens were taken
+-- the range that was handed out has items where tokens were taken
 module _ {P T R : Type 0} {counts_failures : Type 0} {step : P → T → P} {size : T → ℕ} {spells : R → List T → Type 0} {f : T → Bool → Type 0} {d : ℕ} {old v : View P T} {before g : Failures} (z : Walked counts_failures step size f d old v before g) (q : R) (p : spells q (take z.count old.unread)) {count : R → ℕ} (measured : (q : R) (ts : List T) → spells q ts → count q ≡ size_of size ts) where
   pub some_walked : 0 < count q → 0 < z.count
   some_walked h = by_count z.count refl

@@ -1,4 +1,4 @@
--- calls for the range of the tokens since a checkpoint
+-- calls for the tokens since a checkpoint, as a range
 use Rattle.std.proofs.Common.{ℕ, zero, suc, [], ◌∷◌, ◌<◌, ◌≤◌, ◌≡◌, List, take, length, arith, ap, sym, subst, refl, inl, inr, ◌∙◌}
 use Rattle.std.specs.Prelude.{Result, Ok, Err}
 use Rattle.combine_base.specs.Stream.View.{View, Ahead, Takes, Moves}
@@ -53,7 +53,7 @@ module _ {P T V E : Type 0} (counts_failures : Type 0) (step : P → T → P) (s
   pub not_kept : (mid : View P T) (state : Distance) (e : E) (k : Kind) → kind e ≡ k → Takes step n old mid → (k ≡ kinds.Reset) × Moves step mid new × (before.resets < after.resets) → KeepsItemDistance counts_failures step size old new before after n {V = V} kind state state (CommitErr e)
   not_kept mid state e k i t h = record { is = inr (refl, rw (i, h.0) h.2, moves_more step n old mid new t h.1) }
 
--- n tokens have items exactly if there are some
+-- n tokens are items exactly if there are some
 pub some_items : {T : Type 0} (size : T → ℕ) (us : List T) (k : ℕ) → 0 < size_of size (take k us) → 0 < k
 some_items size us zero h = absurd (omega arith)
 some_items size us (suc k) h = omega arith

@@ -1,4 +1,4 @@
--- a test of ranges that depends on their items alone is fair, and its meaning for the tokens
+-- a test of ranges that looks at their items alone is fair, and what it says of the tokens
 use Rattle.std.specs.Prelude.{ℕ, ◌≡◌, ◌≤◌, List, ◌++◌, Bool, true, take, drop, length, nat_eq, refl}
 use Rattle.std.proofs.Common.{Bor, arith, ap, sym, subst, ◌∙◌}
 use Rattle.std.specs.Cmp.Lexicographic.{pointwise, as_long, same_text, nat_list_eq_equiv}
@@ -12,7 +12,7 @@ use Rattle.combine_stream.specs.Range.Measures.{ones}
 use Rattle.combine_stream.specs.Range.TextRanges.{text_of, size_encodes}
 use Rattle.combine_range.specs.WantedRanges.{begins_equal, Fair, BeginsWithWanted, equal_range}
 
--- if tokens spell one list of items, tests of that list are fair
+-- where tokens spell one list of items, tests of that list are fair
 pub fair_by_items : {T I R : Type 0} (items : R → List I) (spelling : List T → List I) (test : List I → Bool) → Fair {T = T} {R = R} (λ r ts. items r ≡ spelling ts) (λ r. test (items r))
 fair_by_items items spelling test r q ts a b = ap test (a ∙ sym b)
 

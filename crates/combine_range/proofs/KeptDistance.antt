@@ -23,7 +23,7 @@ module _ {P T R A E : Type 0} (w : World P T Distance E) (size : T → ℕ) (rea
   abbrev pub whole : Meaning P T R E A Distance
   whole = kept size read adds says
 
-  -- the reading of the distance is the reading that the call begins with
+  -- what the distance means is what stands for the call's meaning
   pub into : (v : View P T) (o : Outcome A) → read d v o → begun whole r.first r.state v o
   into v o p = by_first r.first e
     where
@@ -75,7 +75,7 @@ module _ {P T R A E : Type 0} (w : World P T Distance E) (size : T → ℕ) (rea
       by_kind kinds.Memory h = absurd h
       by_kind kinds.Lost h = absurd h
 
-  -- the result is the first n tokens
+  -- the first n tokens are handed out
   pub distance_hands_over : (n : ℕ) (g : Failures) (spells : A → List T → Type 0) (result : ParseResult A E) → HandsOutRange w.counts_failures w.step spells r.old r.new g r.after n w.kind result → ((a : A) → spells a (take n r.old.unread) → read d r.old (Accepted a n (nat_lt 0 n))) → w.fresh r.left → r.before.reads ≤ g.reads → r.before.resets ≤ g.resets → (w.counts_failures → g ≡ r.before) → Answers w whole r result
   distance_hands_over n g spells result h t l x y f = by_result result h.is
     where
@@ -85,7 +85,7 @@ module _ {P T R A E : Type 0} (w : World P T Distance E) (size : T → ℕ) (rea
       by_result (CommitErr e) z = breaks (w.kind e) e g refl z.0 x y z.1 l
       by_result (PeekErr e) z = absurd z
 
-  -- need of more with its distance kept, or a fault if the stream could not be put back
+  -- need of more, whose distance is kept, or could not be put back
   pub distance_asks_from : (n : ℕ) (state : Distance) (mid : View P T) (g : Failures) (result : ParseResult A E) → KeepsItemDistance w.counts_failures w.step size r.old r.new g r.after n w.kind state r.left result → Takes w.step n r.old mid → w.fresh state → r.before.reads ≤ g.reads → r.before.resets ≤ g.resets → (w.counts_failures → g ≡ r.before) → r.old.is_open ≡ true → read d r.old Undecided → ((k : ℕ) → k ≡ size_of size (take n r.old.unread) → (y : List T) (b : Bool) (o : Outcome A) → read k (extended y b r.old) o → read d (extended y b r.old) o) → Answers w whole r result
   distance_asks_from n state mid g result k t l x y f o u h = by_result result k.is
     where
@@ -98,7 +98,7 @@ module _ {P T R A E : Type 0} (w : World P T Distance E) (size : T → ℕ) (rea
       by_result (PeekErr e) z = absurd z
       by_result (CommitErr e) z = ⊎_elim (λ p. distance_asks e p.0 o u p.1.same (let a = p.1.kept in omega (arith, few)) (h r.left.items p.1.kept) (λ s. p.1.failures s ∙ f s)) (λ p. breaks (w.kind e) e g refl p.1 x y p.2 (subst w.fresh (sym p.0) l)) z
 
-  -- the kept distance was not skipped
+  -- the kept distance was not passed over
   pub unpassed : {Q : Type 0} (spells : Q → List T → Type 0) (k : Kind) (result : ParseResult A E) → UnconsRange w.counts_failures w.step size spells r.old r.new r.before r.after d (Err k) → NotPassed w.kind k result → w.fresh r.left → (EndsInsideToken size r.old.unread d → read d r.old (Refused false)) → Answers w whole r result
   unpassed {Q = Q} spells k result u n l g = record { is = by_kind k result u.is n.is }
     where

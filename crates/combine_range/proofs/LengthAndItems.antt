@@ -1,4 +1,4 @@
--- the value of a parser as a length, and then the parser of that many items, have the reading `prefixed`
+-- the value of a parser as a length, and then the parser of so many items, is what `prefixed` says
 use Rattle.std.specs.Prelude.{ℕ, ◌≡◌, ◌↔◌, List, Bool, true, false, ◌||◌, nat_lt, Result, Ok, refl}
 use Rattle.std.proofs.Common.{ap, sym, subst, inl, inr}
 use Rattle.combine_base.specs.Parser.Meaning.{Reading}
@@ -16,7 +16,7 @@ module _ {P T A E R N : Type 0} (step : P → T → P) (size : T → ℕ) (spell
   abbrev length_read : Reading P T ℕ
   length_read = changed_reading step (λ at a n. turned a (Ok n)) (FitsNone turned) r
 
-  -- the reading of the parser that is returned for it
+  -- what is answered for it
   abbrev items_read : ℕ → Reading P T R
   items_read n v o = (p : N) × (p ≡ made n) × means p v o
 
@@ -51,7 +51,7 @@ module _ {P T A E R N : Type 0} (step : P → T → P) (size : T → ℕ) (spell
     into : (o : Outcome R) → composed_prefix v o → is_prefixed v o
     into o x = subst (is_prefixed v) (sym x.is) (after_length x.meant.0 x.meant.1 x.inner x.meant.2)
 
-    -- an outcome after a length
+    -- an outcome behind a length
     outcome : (n k : ℕ) (c : Bool) → ReadsLength turned r v n k c → (p o : Outcome R) → o ≡ joined k c (λ q. q) p → taking size spells n (advanced step k v) p → composed_prefix v o
     outcome n k c l p o e x = record { inner = o; meant = (Accepted n k c, (l.value, l.accepted, l.fits), (p, given n (advanced step k v) p x, e)); is = refl }
 

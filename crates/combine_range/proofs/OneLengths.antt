@@ -1,4 +1,4 @@
--- where the values at one place are the same length, they are changed alike, and the parsers that are returned for them are one
+-- where the values at one place are the same length, they are changed alike, and the parsers that are answered for them are one
 use Rattle.std.specs.Prelude.{ℕ, ◌≡◌, Result, Ok, Err}
 use Rattle.std.proofs.Common.{subst}
 use Rattle.combine_base.specs.Parser.Meaning.{IsSingle, Reading}

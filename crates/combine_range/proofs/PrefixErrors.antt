@@ -1,4 +1,4 @@
--- the errors of the refusals of a length, and then of the parser of that many items
+-- the errors of the refusals of a length, and then the parser of so many items
 use Rattle.std.specs.Prelude.{ℕ, ◌≡◌, ◌⊎◌, ◌↔◌, List, Bool, true, false, Result, Ok, refl}
 use Rattle.std.proofs.Common.{inl, inr, subst, sym, ⊎_elim}
 use Rattle.combine_base.specs.Error.Errors.{Observers, AddsNothing, AddsItems}
@@ -14,7 +14,7 @@ use Rattle.combine_range.specs.Prefixes.{FitsNone, LacksLength, NoLength, Part, 
 use Rattle.combine_sequence.specs.Then.{RefusesAnswered}
 
 module _ {P T A X R E N U : Type 0} (step : P → T → P) (observers : Observers T R P E) (size : T → ℕ) (spells : R → List T → Type 0) (turned : A → Result ℕ X → Type 0) (r : Reading P T A) (part : Refusing P T E) (made : ℕ → N) (means : N → Meaning P T R E R U) where
-  -- the length's errors, and those after it
+  -- the length's errors, and those behind it
   abbrev changed_refuses : Refusing P T E
   changed_refuses = MeantRefusal (changed_reading step (λ at a n. turned a (Ok n)) (FitsNone turned) r) (RefusesChanged step (λ at a. MadeSaying observers (out_of_range turned a) at) r (MeantRefusal r part))
 

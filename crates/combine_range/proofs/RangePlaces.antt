@@ -1,4 +1,4 @@
--- calls for the first place of a range
+-- calls for the first place where a range stands
 use Rattle.std.proofs.Common.{ℕ, ◌+◌, ◌<◌, ◌≤◌, ◌≡◌, List, ◌∷◌, Bool, true, false, take, drop, length, arith, ap, sym, subst, refl, ◌∙◌, inl, inr, ⊎_elim, length-drop}
 use Rattle.std.specs.Prelude.{Ok, Err, Some, None}
 use Rattle.std.proofs.Math.Nat.{eq-or-lt_of_le}
@@ -95,7 +95,7 @@ module _ {P T R : Type 0} {counts_failures : Type 0} {step : P → T → P} {siz
     );
   }
 
-  -- too few items are left to compare
+  -- too few items are left to say
   pub seeks_none : {mid : View P T} {g : Failures} → TestsHere counts_failures step size spells w now mid f g (Ok None) → Seeks counts_failures step size spells w old mid before g (Ok false)
   seeks_none t = record {
     is = (

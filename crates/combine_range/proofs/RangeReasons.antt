@@ -1,4 +1,4 @@
--- the errors of the refusals of range parsers, by the result of a call
+-- the errors of the refusals of range parsers, by how a call is answered
 use Rattle.std.proofs.Common.{ℕ, ◌<◌, ◌≡◌, inl, inr, ⊎_elim, List, Bool, true, false, if◌then◌else◌, drop, arith, ap, sym, subst, refl, ◌∙◌}
 use Rattle.std.specs.Prelude.{zero, suc, Ok, Err}
 use Rattle.combine_base.specs.Stream.View.{View, advanced}
@@ -42,7 +42,7 @@ module _ {E : Type 0} (kind : E → Kind) (is_open : Bool) (says : Bool → E �
   reasons_broke e k f g i h = reasons_fault kind is_open says e k i (broke_fault k f g h)
 
 module _ {P T R E : Type 0} {kind : E → Kind} {is_open : Bool} (says : Bool → E → Type 0) {counts_failures : Type 0} {step : P → T → P} {spells : R → List T → Type 0} {old new : View P T} {before after : Failures} {n : ℕ} where
-  -- nor is a range that was read again
+  -- nor is what is handed out
   pub reasons_handed : (result : ParseResult R E) → HandsOutRange counts_failures step spells old new before after n kind result → Reasoned kind is_open says result
   reasons_handed (CommitOk q) h = reasons_ok kind is_open says q
   reasons_handed (PeekOk q) h = reasons_peek_ok kind is_open says q
@@ -65,7 +65,7 @@ module _ {V P T E : Type 0} {kind : E → Kind} (says : Bool → E → Type 0) {
 
 module _ {V T R P E : Type 0} (s : Observers T R P E) (says : Bool → E → Type 0) (place : P) where
   module _ {Q : Type 0} (counts_failures : Type 0) (step : P → T → P) (size : T → ℕ) (spells : Q → List T → Type 0) (old new : View P T) (before after : Failures) (n : ℕ) where
-    -- no range of n items could be taken
+    -- no range of so many items could be taken
     module _ (h : new ≡ old → (u : UnfitLength size spells n old) (e : E) → length_says s size spells place n old u e → says false e) where
       ended : (result : ParseResult V E) → size_of size old.unread < n → TakesNoItem counts_failures step size spells old new before after → NoToken s.kind s.heapless new.is_open kinds.End result → peeks_saying (says_why s place kinds.End) result → Reasoned s.kind new.is_open says result
       ended (CommitOk v) l y a b = absurd a.is
@@ -96,7 +96,7 @@ module _ {V T R P E : Type 0} (s : Observers T R P E) (says : Bool → E → Typ
           by_kind kinds.Reset u a b = absurd u
           by_kind kinds.Lost u a b = absurd u
 
-    -- a kept distance was not skipped
+    -- a kept distance was not passed over
     module _ (h : new ≡ old → EndsInsideToken size old.unread n → (e : E) → New s kinds.Refused place e → says false e) where
       pub reasons_unpassed : (why : Kind) (result : ParseResult V E) → UnconsRange counts_failures step size spells old new before after n (Err why) → NotPassed s.kind why result → PeeksSaying (New s kinds.Refused place) result → Reasoned s.kind new.is_open says result
       reasons_unpassed why result u a b = by_kind why result u.is a.is b.is
@@ -118,7 +118,7 @@ module _ {V T R P E : Type 0} (s : Observers T R P E) (says : Bool → E → Typ
           by_kind kinds.Lost result u a b = absurd u
 
   module _ (is_open : Bool) where
-    -- the beginning is empty
+    -- nothing passed
     pub reasons_empty : (us : List T) (result : ParseResult V E) → RefusesPeeked s.kind s.heapless is_open result → PeeksSaying (refuses_one s place us) result → ((e : E) → refuses_one s place us e → says false e) → Reasoned s.kind is_open says result
     reasons_empty us (CommitOk v) a b h = absurd a.is
     reasons_empty us (PeekOk v) a b h = absurd a.is
@@ -136,18 +136,18 @@ module _ {T R P Q E : Type 0} (s : Observers T R P E) (counts_failures : Type 0)
   abbrev differing : Bool → E → Type 0
   differing = RefusesDiffering s size spells w old new
 
-  -- another range is there, and was put back
+  -- another range stands there, and was put back
   pub reasons_other : {V : Type 0} (is_open : Bool) (mid : View P T) (before f : Failures) (q : Q) (b : Bool) (t : Tracked E) → UnconsRange counts_failures step size spells old mid before f n (Ok q) → b ≡ w.test q → b ≡ false → new ≡ old → New s kinds.Refused old.position t.error → Reasoned {V = V} s.kind is_open differing (PeekErr t)
   reasons_other is_open mid before f q b t u e j back k =
       let l = subst (λ m. UnconsRange counts_failures step size spells old mid before f m (Ok q)) i u in
       reasons_peeked s.kind is_open differing t (record { peeked = refl; back = back; differs = Other q l.is.0 (record { place = l.is.1; spelled = l.is.2.spelled }) (sym e ∙ j); says = k })
 
-  -- no range of that length is there
+  -- none of its length does
   pub reasons_unmatched : {V : Type 0} (before after : Failures) (why : Kind) (result : ParseResult V E) → UnconsRange counts_failures step size spells old new before after n (Err why) → NoRange s.kind s.heapless new.is_open why result → PeeksSaying (says_why s old.position why) result → Reasoned s.kind new.is_open differing result
   reasons_unmatched before after why result u =
       reasons_none s differing old.position counts_failures step size spells old new before after w.items (λ q u e h. record { peeked = refl; back = q; differs = No u; says = h }) why result (subst (λ m. UnconsRange counts_failures step size spells old new before after m (Err why)) i u)
 
--- the errors of a call that begins after d items
+-- the errors of a call that begins behind so many items
 module _ {P T R V E : Type 0} (size : T → ℕ) (read : ℕ → Reading P T R) (adds : List (ErrorItem T R) → Type 0) (says : ℕ → Refusing P T E) (d : ℕ) (first : Bool) (state : Distance) (i : d ≡ (if first then 0 else state.items)) (old new : View P T) where
   pub kept_reasons : {kind : E → Kind} {is_open : Bool} {result : ParseResult V E} → Reasoned kind is_open (says d old new) result → Reasoned kind is_open (begun_refuses (kept size read adds says) first state old new) result
   kept_reasons {kind} {is_open} {result} h = by_first first i
@@ -179,7 +179,7 @@ module _ {T R P E : Type 0} (s : Observers T R P E) (size : T → ℕ) (own : �
       by_items zero h = absurd (none_inside size old.unread 0 refl h)
       by_items (suc n) h = inr (record { peeked = refl; back = q; inside = h; says = m })
 
--- from the start, a reached beginning of no tokens is empty
+-- what is reached is nothing, from the start
 pub reached_none : {T : Type 0} (size : T → ℕ) (f : T → Bool → Type 0) (d : ℕ) (us : List T) (k : ℕ) → ReachesLongest size f d us k → k ≡ 0 → Longest f us 0
 reached_none size f d us k p e =
     let c = p.count in

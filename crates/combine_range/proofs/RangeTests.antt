@@ -1,4 +1,4 @@
--- the places where a test of ranges fails, if all tokens have a range: those with enough items, which are not the wanted ones
+-- where a test of ranges fails, if each tokens have a range: where enough items are no wanted ones
 use Rattle.std.specs.Prelude.{ℕ, zero, suc, ◌-◌, ◌<◌, ◌≤◌, ◌≡◌, ◌⊎◌, ◌↔◌, List, [], ◌∷◌, ◌++◌, Bool, true, false, take, drop, length, nat_eq, refl}
 use Rattle.std.specs.Cmp.Lexicographic.{pointwise}
 use Rattle.std.specs.Str.{chars, IsUtf8}

@@ -1,4 +1,4 @@
--- one call of `recognize_with_value`: it has skipped the distance, and each result of the part there gives one of the call
+-- one call of `recognize_with_value`: it has passed over the distance, and each answer of the part there is one of it
 use Rattle.std.proofs.Common.{ℕ, ◌+◌, ◌<◌, ◌≤◌, ◌≡◌, List, Bool, true, false, if◌then◌else◌, nat_lt, take, arith, ap, sym, subst, refl, ◌∙◌, lt-ltb}
 use Rattle.std.specs.Prelude.{Ok, Err}
 use Rattle.combine_base.specs.Error.Errors.{Observers}
@@ -23,7 +23,7 @@ use Rattle.combine_range.specs.Range.RecognizedRange.{IsFreshRecognizing, beside
 use Rattle.combine_range.specs.declared.range.recognized.RecognizeState.{RecognizeState}
 
 module _ {P T R V S E : Type 0} (w : World P T S E) (size : T → ℕ) (filled : (t : T) → 0 < size t) (spells : R → List T → Type 0) (errors : Observers T R P E) (m : Meaning P T R E V S) where
-  -- an outcome that is read n tokens later is an outcome of the part from its start
+  -- what is read later, after n tokens more, was read by the part as it began
   read_before : (us : List T) (b n : ℕ) (i : Outcome V) (o : Outcome (R × V)) → sliced size spells w.step us (b + n) i o → sliced size spells w.step us b (after n false i) o
   read_before us b n (Accepted a k c) (Accepted p j e) h = (h.0, h.1, let x = h.2 in omega arith, h.3)
   read_before us b n (Accepted a k c) (Refused e) h = absurd h
@@ -35,7 +35,7 @@ module _ {P T R V S E : Type 0} (w : World P T S E) (size : T → ℕ) (filled :
   read_before us b n Undecided (Refused e) h = absurd h
   read_before us b n Undecided Undecided h = tt
 
-  -- a call with this start has come to this call of the part, some tokens later
+  -- a call that began so has come to the part's call so, some tokens later
   pub record ReachesRecognizedPart (d : ℕ) (first : Bool) (state : RecognizeState S) (old : View P T) (before : Failures) (held : ℕ) (part : S) (now : View P T) (so_far : Failures) : Type 0 where
     pub count : ℕ
     pub distance : d ≡ (if first then 0 else state.distance)
@@ -151,7 +151,7 @@ module _ {P T R V S E : Type 0} (w : World P T S E) (size : T → ℕ) (filled :
           by_answer (CommitErr e) i = slice_breaks (w.kind e) e refl i.0 x y i.1 (ap (λ (s : RecognizeState S). s.distance) l) (rw l p.state)
           by_answer (PeekErr t) i = absurd i
 
-    -- need of more: all is put back, and the next call skips all that was read
+    -- need of more: all is put back, and all that was read is passed over by the next call
     module _ (read : ℕ) (g : (n : ℕ) → Takes w.step n u.old r.new → read ≡ size_of size (take n u.old.unread)) (y : Asks w m r) where
       all : Takes w.step (z.count + y.count) u.old r.new
       all = all_read y.count y.taken
@@ -214,7 +214,7 @@ module _ {P T R V S E : Type 0} (w : World P T S E) (size : T → ℕ) (filled :
         slice_breaks k e i (rw h.0 h.2) b c (moves_more w.step (z.count + a.count) u.old r.new u.new (all_read a.count a.taken) h.1) n l
 
 module _ {P T R V S E : Type 0} (w : World P T S E) (size : T → ℕ) (spells : R → List T → Type 0) (errors : Observers T R P E) (m : Meaning P T R E V S) (u : CallRecord P T (RecognizeState S)) (d : ℕ) (e : d ≡ (if u.first then 0 else u.state.distance)) where
-  -- the kept distance was not skipped
+  -- the kept distance was not passed over
   pub slice_unpassed : {Q : Type 0} (none : Q → List T → Type 0) (k : Kind) (result : ParseResult (R × V) E) → UnconsRange w.counts_failures w.step size none u.old u.new u.before u.after d (Err k) → NotPassed w.kind k result → u.left.distance ≡ 0 → w.fresh u.left.part → Answers (around w (IsFreshRecognizing w.fresh)) (recognized errors size spells w.step m) u result
   slice_unpassed {Q = Q} none k result q n a l = record { is = by_kind k result q.is n.is }
     where

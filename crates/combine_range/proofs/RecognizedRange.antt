@@ -1,4 +1,4 @@
--- the value of `recognize`
+-- what `recognize` gives
 use Rattle.std.proofs.Common.{arith, ℕ, ◌<◌, ◌≡◌, ◌↔◌, Bool, List, refl, sym, subst}
 use Rattle.combine_base.specs.Stream.View.{View, advanced}
 use Rattle.combine_base.specs.Parser.Outcome.{Outcome, Accepted, Refused, Undecided}

@@ -1,4 +1,4 @@
--- one call for the tokens before a range
+-- one call for what stands before a range
 use Rattle.std.proofs.Common.{ℕ, ◌+◌, ◌-◌, ◌<◌, ◌≤◌, ◌≡◌, List, true, false, if◌then◌else◌, take, drop, length, arith, ap, sym, subst, refl, ◌∙◌, length-drop}
 use Rattle.std.specs.Prelude.{Ok, ◌⊎◌}
 use Rattle.std.proofs.lemmas.List.{drop-drop}
@@ -22,7 +22,7 @@ use Rattle.combine_range.specs.RangeTests.{FailsTest, FirstTested, NoneTested, S
 use Rattle.combine_range.specs.Range.UntilRange.{NoneAhead, Absent, FailsBetween, until_range, until_resumes}
 
 module _ {P T R : Type 0} (counts_failures : Type 0) (step : P → T → P) (size : T → ℕ) (spells : R → List T → Type 0) (t : Wanted R) where
-  -- d items were skipped, and then the tokens before a place
+  -- d items were passed over, and then the tokens before a place
   pub record StoppedBefore (d : ℕ) (old v : View P T) (before g : Failures) : Type 0 where
     pub from : ℕ
     pub to : ℕ
@@ -66,7 +66,7 @@ module _ {P T Q : Type 0} {counts_failures : Type 0} {step : P → T → P} {siz
     }
 
 module _ {P T R E : Type 0} (w : World P T Distance E) (size : T → ℕ) (filled : (t : T) → 0 < size t) (spells : R → List T → Type 0) (t : Wanted R) (adds : List (ErrorItem T R) → Type 0) (says : ℕ → Refusing P T E) (r : CallRecord P T Distance) (d : ℕ) (e : d ≡ (if r.first then 0 else r.state.items)) (v : View P T) (g : Failures) (z : StoppedBefore w.counts_failures w.step size spells t d r.old v r.before g) where
-  -- found: the result is the tokens before it
+  -- found: what stands before is handed out
   pub until_hands : BeginsWithWanted size spells t v.unread → (result : ParseResult R E) → HandsOutRange w.counts_failures w.step spells r.old r.new g r.after z.to w.kind result → w.fresh r.left → r.before.reads ≤ g.reads → r.before.resets ≤ g.resets → Answers w (kept size (until_range size spells t) adds says) r result
   until_hands b result h l x y = distance_hands_over w size (until_range size spells t) adds says r d e z.to g spells result h (λ q p. record { from = z.from; place = z.place; first = stops_at_first w.counts_failures w.step size spells t d r.old v r.before g z b; spelled = p; kind = refl }) l x y z.failures
 

@@ -19,7 +19,7 @@ abbrev pub items_of : Distance → ℕ
 items_of d = d.items
 
 module _ {P T R E A : Type 0} where
-  -- one reading for each distance, and the errors of its refusals; the whole has those of distance 0
+  -- one reading for each distance, and the errors of its refusals; those of distance 0 are the whole's
   abbrev pub kept : (T → ℕ) → (ℕ → Reading P T A) → (List (ErrorItem T R) → Type 0) → (ℕ → Refusing P T E) → Meaning P T R E A Distance
   kept size read adds refuses = record { whole = read 0; rest = λ d. read d.items; lost = λ d v. size_of size v.unread < d.items; keeps = ⊥; puts_back = Unit {0}; heapless = Unit {0}; adds = adds; refuses = refuses 0; refuses_from = λ d. refuses d.items }
 
@@ -35,7 +35,7 @@ module _ {P T R E A : Type 0} where
   pub kept_means_one : (valid : Distance → Type 0) (size : T → ℕ) (read : ℕ → Reading P T A) (adds : List (ErrorItem T R) → Type 0) (refuses : ℕ → Refusing P T E) → ((d : ℕ) → IsSingle (read d)) → MeansOne valid (kept size read adds refuses)
   kept_means_one valid size read adds refuses h = record { whole = h 0; rest = λ s k. h s.items }
 
--- the result if the kept distance was not skipped
+-- the answer where the kept distance was not passed over
 module _ {V E : Type 0} (kind : E → Kind) where
   abbrev pub not_passed : Kind → ParseResult V E → Type 0
   not_passed why (CommitOk v) = ⊥
@@ -60,7 +60,7 @@ module _ {P T R : Type 0} (counts_failures : Type 0) (step : P → T → P) (spe
   pub record Hands (result : Result R Kind) : Type 0 where
     pub is : hands result
 
--- the same as a result: committed exactly if there are tokens
+-- the same as an answer: committed exactly if there are tokens
 module _ {P T R E : Type 0} (counts_failures : Type 0) (step : P → T → P) (spells : R → List T → Type 0) (old new : View P T) (before after : Failures) (n : ℕ) (kind : E → Kind) where
   abbrev pub hands_out_range : ParseResult R E → Type 0
   hands_out_range (CommitOk q) = Handed counts_failures step spells old new before after n q × (0 < n)
@@ -71,7 +71,7 @@ module _ {P T R E : Type 0} (counts_failures : Type 0) (step : P → T → P) (s
   pub record HandsOutRange (result : ParseResult R E) : Type 0 where
     pub is : hands_out_range result
 
--- on need of more the stream is put back n tokens, and the state keeps the number of their items; or it could not be put back
+-- on need of more the stream is put back to where it stood n tokens before, and the state keeps the items of these; or it could not be put back
 module _ {P T : Type 0} (counts_failures : Type 0) (step : P → T → P) (size : T → ℕ) (old new : View P T) (before after : Failures) (n : ℕ) where
   pub record BackWithItems (left : Distance) : Type 0 where
     pub same : new ≡ old

@@ -15,7 +15,7 @@ module _ {V E : Type 0} (kind : E → Kind) (heapless : Type 0) (is_open : Bool)
   refuses_peeked (CommitErr e) = (kind e ≡ kinds.Memory) × (heapless → ⊥)
   refuses_peeked (PeekErr t) = (kind t.error ≡ kinds.Refused) ⊎ ((kind t.error ≡ kinds.End) × (is_open ≡ false))
 
-  -- a peeked refusal, with kind `End` only on an ended list, or out of memory for its error
+  -- a peeked refusal, which may say of an ended list that it ends, unless that found no memory
   pub record RefusesPeeked (result : ParseResult V E) : Type 0 where
     pub is : refuses_peeked result
 
@@ -42,7 +42,7 @@ module _ {V E : Type 0} (says : E → Type 0) where
   pub record PeeksSaying (result : ParseResult V E) : Type 0 where
     pub is : peeks_saying result
 
--- for too few items the error has the end of input as unexpected; at an end inside a token it is empty
+-- of too few items an error says that the input ended; of an end inside a token it says nothing
 abbrev pub says_why : {T R P E : Type 0} → Observers T R P E → P → Kind → E → Type 0
 says_why s place kinds.Refused e = New s kinds.Refused place e
 says_why s place kinds.End e = HasItems s kinds.End place (Only end_of_input) e

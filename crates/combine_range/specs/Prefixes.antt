@@ -1,4 +1,4 @@
--- a length, and then that many items
+-- a length, and then so many items
 use Rattle.std.specs.Prelude.{ℕ, codes, ◌+◌, ◌≡◌, ◌⊎◌, List, Bool, ◌||◌, false, nat_lt, Result, Ok, Err}
 use Rattle.combine_base.specs.Error.Errors.{Observers, AddsNothing, Only, AddsItems}
 use Rattle.combine_base.specs.Error.Items.{ErrorItem, Fixed, Message}
@@ -15,11 +15,11 @@ module _ {A E : Type 0} (turned : A → Result ℕ E → Type 0) where
   abbrev pub FitsNone : A → Type 0
   FitsNone a = (e : E) × turned a (Err e)
 
-  -- the items of its error
+  -- what is said of it
   abbrev pub out_of_range : {T R : Type 0} → A → List (ErrorItem T R) → Type 0
   out_of_range a is = FitsNone a × Only (Message (Fixed (codes "length out of range"))) is
 
--- both are the same length, or neither is one
+-- both are that length, or both are none
 abbrev pub SameLength : {E : Type 0} → Result ℕ E → Result ℕ E → Type 0
 SameLength (Ok n) (Ok m) = n ≡ m
 SameLength (Ok n) (Err e) = ⊥
@@ -31,13 +31,13 @@ pub record OneLength {P T A E : Type 0} (turned : A → Result ℕ E → Type 0)
   pub one : (v : View P T) (a a' : A) (n m : ℕ) (k c : Bool) → r v (Accepted a n k) → r v (Accepted a' m c) → (x x' : Result ℕ E) → turned a x → turned a' x' → SameLength x x'
 
 module _ {P T A E : Type 0} (turned : A → Result ℕ E → Type 0) (r : Reading P T A) (v : View P T) where
-  -- a length was read, with `count` tokens
+  -- a length was read, with so many tokens
   pub record ReadsLength (length count : ℕ) (committed : Bool) : Type 0 where
     pub value : A
     pub accepted : r v (Accepted value count committed)
     pub fits : turned value (Ok length)
 
-  -- a value was read that is no length
+  -- a value was read that is none
   pub record ReadsNone (committed : Bool) : Type 0 where
     pub value : A
     pub count : ℕ
@@ -49,7 +49,7 @@ module _ {P T A E : Type 0} (turned : A → Result ℕ E → Type 0) (r : Readin
   LacksLength committed = r v (Refused committed) ⊎ ReadsNone committed
 
 module _ {P T A E R : Type 0} (step : P → T → P) (size : T → ℕ) (spells : R → List T → Type 0) (turned : A → Result ℕ E → Type 0) (r : Reading P T A) where
-  -- that many items follow a length, and this is their range
+  -- behind a length stand so many items, and this is their range
   pub record LengthAndItems (v : View P T) (q : R) (n : ℕ) (c : Bool) : Type 0 where
     pub length : ℕ
     pub before : ℕ
@@ -60,14 +60,14 @@ module _ {P T A E R : Type 0} (step : P → T → P) (size : T → ℕ) (spells 
     pub sum : n ≡ before + count
     pub kind : c ≡ (committed || nat_lt 0 length)
 
-  -- after a length the items are too few, or end inside a token
+  -- behind a length the items are too few, or end inside a token
   pub record Unframed (v : View P T) (c : Bool) : Type 0 where
     pub length : ℕ
     pub before : ℕ
     pub read : ReadsLength turned r v length before c
     pub unfit : UnfitLength size spells length (advanced step before v)
 
-  -- after a length the items are still too few
+  -- behind a length the items are still too few
   pub record AwaitsItems (v : View P T) : Type 0 where
     pub length : ℕ
     pub before : ℕ
@@ -75,14 +75,14 @@ module _ {P T A E R : Type 0} (step : P → T → P) (size : T → ℕ) (spells 
     pub read : ReadsLength turned r v length before committed
     pub waits : WaitsForLength size spells length (advanced step before v)
 
-  -- A length is read by r, and then that many items: committed if the length was, or if there is an item. A value that is no length, and a length before too few items, are refused, committed as the length was.
+  -- A length is read by r, and then that many items: committed if the length was, or if there is an item. What fits no length, and a length that stands before too few items, are refused with the kind of the length.
   abbrev pub prefixed : Reading P T R
   prefixed v (Accepted q n c) = LengthAndItems v q n c
   prefixed v (Refused c) = r v (Refused c) ⊎ (ReadsNone turned r v c ⊎ Unframed v c)
   prefixed v Undecided = r v Undecided ⊎ AwaitsItems v
 
 module _ {P T A X R E : Type 0} (step : P → T → P) (observers : Observers T R P E) (size : T → ℕ) (spells : R → List T → Type 0) (turned : A → Result ℕ X → Type 0) (r : Reading P T A) where
-  -- a value that is no length: its tokens stay taken, and the error is made where the call began, with its message
+  -- a value that is no length: its tokens stay taken, and the error is made where the call began, and says so
   pub record SaysNone (v w : View P T) (committed : Bool) (e : E) : Type 0 where
     pub value : A
     pub count : ℕ
@@ -90,7 +90,7 @@ module _ {P T A X R E : Type 0} (step : P → T → P) (observers : Observers T 
     pub taken : Takes step count v w
     pub said : MadeSaying observers (out_of_range turned value) v.position e
 
-  -- too few items, or an end inside a token: the tokens after the length are unread; the error is one of `take`, made there, with the next token as unexpected
+  -- too few items, or an end inside a token: what stands behind the length is left; the error is that of `take`, made there, and then says which token stands there
   pub record SaysUnframed (v w : View P T) (committed : Bool) (e : E) : Type 0 where
     pub length : ℕ
     pub before : ℕ
@@ -100,7 +100,7 @@ module _ {P T A X R E : Type 0} (step : P → T → P) (observers : Observers T 
     pub made : RefusesLength observers size spells length w w false own
     pub explained : AddsItems observers (Unit {0}) (AtToken AddsNothing w.unread) own e
 
-  -- the error of a refusal: the part's if no length was read, or the error of a value that is none; or one after a length
+  -- the error of a refusal: where no length was read the part's, or that of a value that is none; or that behind a length
   pub data RefusesPrefixed (part : Refusing P T E) (v w : View P T) (committed : Bool) (e : E) : Type 0 where
     Part : MeantRefusal r part v w committed e → RefusesPrefixed part v w committed e
     NoLength : LacksLength turned r v committed → SaysNone v w committed e → RefusesPrefixed part v w committed e

@@ -1,4 +1,4 @@
--- parsers of ranges: of a length, under a predicate, up to a range, and of the tokens that a parser takes
+-- parsers of ranges: of a length, under a test, up to a range, and of what a parser takes
 pub mod Beginnings
 pub mod Lengths
 pub mod RangeParsers

@@ -1,4 +1,4 @@
--- places where a range was tested
+-- places where the range that stands there was tested
 use Rattle.std.specs.Prelude.{ℕ, ◌<◌, ◌≤◌, ◌≡◌, ◌⊎◌, List, ◌++◌, Bool, true, false, take, drop, length, Option, Some, None, Result, Ok, Err}
 use Rattle.std.proofs.Common.{arith, sym, subst, ⊎_elim}
 use Rattle.std.proofs.lemmas.List.{drop-append-le, length-append}
@@ -10,19 +10,19 @@ use Rattle.combine_stream.specs.Range.Ranges.{size_of, IsItemPlace, EndsInsideTo
 use Rattle.combine_range.specs.WantedRanges.{Wanted, Fair, BeginsWithWanted, IsFirstPlace, BeginsNowhere, begins_stays}
 
 module _ {T R : Type 0} (size : T → ℕ) (spells : R → List T → Type 0) (w : Wanted R) where
-  -- these tokens fail the test: they begin with another range of that many items, or that many items end inside a token
+  -- another range is the beginning of these tokens: one of as many items that fails the test, or so many items end inside a token
   pub data FailsTest (us : List T) : Type 0 where
     Other : (q : R) (k : ℕ) → IsItemPlace size us w.items k → spells q (take k us) → w.test q ≡ false → FailsTest us
     Split : EndsInsideToken size us w.items → FailsTest us
 
-  -- k is the first place from b on where a wanted range was found: at each before it, the test failed
+  -- k is the first place from b on where a wanted range was seen: at each before it, another
   pub record FirstTested (b : ℕ) (us : List T) (k : ℕ) : Type 0 where
     pub later : b ≤ k
     pub within : k ≤ length us
     pub begins : BeginsWithWanted size spells w (drop k us)
     pub fails : (j : ℕ) → b ≤ j → j < k → FailsTest (drop j us)
 
-  -- from b on, the test failed at each place, or too few items are left there
+  -- from b on another was seen at each place, or too few items are left there
   pub record NoneTested (b : ℕ) (us : List T) : Type 0 where
     pub fails : (j : ℕ) → b ≤ j → j ≤ length us → FailsTest (drop j us) ⊎ (size_of size (drop j us) < w.items)
 
@@ -38,7 +38,7 @@ module _ {T R : Type 0} (size : T → ℕ) (spells : R → List T → Type 0) (w
     fails_stays us x (Other q k p s f) = Other q k (place_stays size us x w.items k p) (subst (spells q) (sym (take_stays size us x w.items k p)) s) f
     fails_stays us x (Split i) = Split (inside_stays size filled us x w.items i)
 
-    -- a place where the test failed stays one, whatever follows
+    -- a place at which another was seen stays one, whatever follows
     pub fails_test_later : (us x : List T) (j : ℕ) → j ≤ length us → FailsTest (drop j us) → FailsTest (drop j (us ++ x))
     fails_test_later us x j l f = subst FailsTest (sym (drop-append-le j us x l)) (fails_stays (drop j us) x f)
 
@@ -50,7 +50,7 @@ module _ {T R : Type 0} (size : T → ℕ) (spells : R → List T → Type 0) (w
       fails = λ j g h. fails_test_later us x j (let a = p.within in omega arith) (p.fails j g h);
     }
 
-    -- if ranges of the same tokens are tested alike, it is the first place of all, and none is missed
+    -- where ranges of the same tokens are tested alike, it is the first place of all, and none is missed
     module _ (fair : Fair spells w.test) where
       pub fails_begins : (us : List T) → FailsTest us → BeginsWithWanted size spells w us → ⊥
       fails_begins us (Other q k p s f) b =
@@ -71,7 +71,7 @@ module _ {P T R : Type 0} (counts_failures : Type 0) (step : P → T → P) (siz
     pub same : new ≡ old
     pub failures : counts_failures → after ≡ before
 
-  -- whether the unread tokens begin with a wanted range; none if there are too few items
+  -- whether the unread tokens begin with a wanted range; none where too few items are left to say
   abbrev pub tests_here : Result (Option Bool) Kind → Type 0
   tests_here (Ok (Some true)) = BeginsWithWanted size spells w old.unread × Still
   tests_here (Ok (Some false)) = FailsTest size spells w old.unread × Still
@@ -81,14 +81,14 @@ module _ {P T R : Type 0} (counts_failures : Type 0) (step : P → T → P) (siz
   pub record TestsHere (result : Result (Option Bool) Kind) : Type 0 where
     pub is : tests_here result
 
-  -- at each token that was passed the test failed
+  -- at each token that was passed another range was seen
   pub record SoughtRange : Type 0 where
     pub count : ℕ
     pub taken : Takes step count old new
     pub fails : (j : ℕ) → j < count → FailsTest size spells w (drop j old.unread)
     pub failures : counts_failures → after ≡ before
 
-  -- the first place, the first place with too few items to test, or a fault
+  -- the first place, the first place from which none can be told, or a fault
   abbrev pub seeks : Result Bool Kind → Type 0
   seeks (Ok true) = SoughtRange × BeginsWithWanted size spells w new.unread
   seeks (Ok false) = SoughtRange × NoneTested size spells w 0 old.unread

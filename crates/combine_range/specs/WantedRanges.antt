@@ -1,11 +1,11 @@
--- places of a wanted range, and the meaning of a fair test of ranges for the tokens
+-- places where a wanted range stands, and what a fair test of ranges says of the tokens
 use Rattle.std.specs.Prelude.{ℕ, ◌-◌, ◌+◌, ◌<◌, ◌≤◌, ◌≡◌, List, ◌++◌, Bool, true, take, drop, length}
 use Rattle.std.proofs.Common.{arith, ap, sym, subst, ◌∙◌}
 use Rattle.std.proofs.lemmas.List.{take-append-le, drop-append-le, drop-drop, take_all, length-append}
 use Rattle.combine_stream.specs.Range.Ranges.{size_of, IsItemPlace, size_rises, size_take, place_within, place_stays, take_stays}
 use Rattle.std.specs.Cmp.Lexicographic.{pointwise}
 
--- the condition on a range: its number of items, and a test
+-- what is asked of a range: its number of items, and a test
 pub record Wanted (Range : Type 0) : Type 0 where
   pub items : ℕ
   pub test : Range → Bool
@@ -14,7 +14,7 @@ pub record Wanted (Range : Type 0) : Type 0 where
 abbrev pub equal_range : {R : Type 0} → (R → ℕ) → (R → R → Bool) → R → Wanted R
 equal_range count eq r = record { items = count r; test = λ q. eq q r }
 
--- the test depends on the tokens alone
+-- the test sees no more than the tokens
 abbrev pub Fair : {T R : Type 0} → (R → List T → Type 0) → (R → Bool) → Type 0
 Fair {T = T} {R = R} spells test = (r q : R) (ts : List T) → spells r ts → spells q ts → test r ≡ test q
 
@@ -56,7 +56,7 @@ module _ {T R : Type 0} (size : T → ℕ) (spells : R → List T → Type 0) (w
   }
 
   module _ (filled : (t : T) → 0 < size t) where
-    -- if there are enough items, later tokens change nothing
+    -- where enough items stand, what follows changes nothing
     pub begins_without_more : (us x : List T) → w.items ≤ size_of size us → BeginsWithWanted (us ++ x) → BeginsWithWanted us
     begins_without_more us x h b =
         let k : b.count ≤ length us = by_order (λ z. let a = size_rises size filled (us ++ x) (length us) b.count z b.place.within in let d = ap (size_of size) (whole us x) in let e = b.place.items in omega arith) in
@@ -74,7 +74,7 @@ module _ {T R : Type 0} (size : T → ℕ) (spells : R → List T → Type 0) (w
         by_order : {n m : ℕ} → (m < n → ⊥) → n ≤ m
         by_order d = omega arith
 
-    -- if a place with enough items after it doesn't begin with a wanted range, it doesn't with more tokens
+    -- what a place with enough items after it was found not to begin with, it doesn't begin with later
     pub not_later : (us x : List T) (j : ℕ) → j ≤ length us → w.items ≤ size_of size (drop j us) → (BeginsWithWanted (drop j us) → ⊥) → BeginsWithWanted (drop j (us ++ x)) → ⊥
     not_later us x j l e n b = n (begins_without_more (drop j us) x e (subst BeginsWithWanted (drop-append-le j us x l) b))
 

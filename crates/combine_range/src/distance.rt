@@ -1,6 +1,6 @@
-//! The state of range parsers and searches over a cut.
+//! What range parsers and searches keep over a cut.
 
-/// The kept state of a range parser or a search: the number of items that the next call skips.
+/// What a range parser or a search keeps over a cut: how many items the next call passes over.
 #[derive(Drop)]
 pub struct Distance {
     pub(crate) items: usize,

@@ -1,4 +1,4 @@
-//! Kept distances in items, and the ranges that range parsers take.
+//! Distances in items, which range parsers keep.
 ghost use Rattle.std.specs.Prelude.{◌≡◌, ◌↔◌, [], true, if◌then◌else◌};
 ghost use Rattle.combine_base.specs.Stream.View.{Takes};
 ghost use Rattle.combine_base.specs.Stream.Calls.{Passes};
@@ -14,7 +14,7 @@ use combine_base::refusal::no_token;
 use combine_base::stream::{Kind, ResetStream, Stream, StreamOnce};
 use combine_stream::range::{Range, RangeStream};
 
-/// Takes the kept distance when resuming, else returns 0.
+/// Hands out the distance that a call begins with: none where it begins afresh.
 #[inline(always)]
 pub fn begin(first: bool, state: &mut Distance) -> usize
     ensures begun { result ≡ (if first then 0 else state.old.items) }
@@ -25,7 +25,7 @@ pub fn begin(first: bool, state: &mut Distance) -> usize
     distance
 }
 
-/// Skips `n` items.
+/// Passes over `n` items.
 #[inline(always)]
 pub fn pass_items<Input: RangeStream>(input: &mut Input, n: usize) -> Result<(), Kind>
 where
@@ -42,7 +42,7 @@ where
     }
 }
 
-/// Returns the result if the kept distance could not be skipped. It is a fault, or a peeked refusal if the distance ends inside a token, with an error made there.
+/// Returns the result where the kept distance was not passed over: a fault, or a peeked refusal where it ends inside a token, with an error that is made there.
 #[cold]
 pub fn not_passed<O, Input: Stream>(
     input: &Input,
@@ -65,7 +65,7 @@ pub fn not_passed<O, Input: Stream>(
     }
 }
 
-/// Returns whether an open stream has nothing unread.
+/// Returns whether all is taken of an open stream.
 #[inline(always)]
 pub fn is_undecided_end<Input: RangeStream>(input: &Input) -> bool
 where
@@ -77,7 +77,7 @@ where
 
 /// Puts the stream back on need of more, and keeps the distance from there.
 ///
-/// If the stream can't be put back, the result is the fault `Reset`.
+/// If the stream can't be put back, that is the fault `Reset`.
 #[inline(always)]
 pub fn keep_distance<O, Input: RangeStream>(
     start: Input::Checkpoint,
@@ -100,9 +100,9 @@ where
     }
 }
 
-/// Refuses peeked at the unread tokens; if there are none, the error has the end of input as unexpected.
+/// Refuses peeked at what is unread, with an error that says that the input ended where nothing is.
 ///
-/// If that error finds no memory, the result is the fault `Memory`.
+/// One that finds no memory for that is the fault `Memory`.
 #[cold]
 pub fn refused_here<O, Input: RangeStream>(
     input: &Input,
@@ -120,9 +120,9 @@ where
     ParseResult::PeekErr(Tracked::from(input.new_error(Kind::Refused, position)))
 }
 
-/// Returns a parser's result if no range of some length could be taken.
+/// Returns a parser's result where no range of some length could be taken.
 ///
-/// Too few items are need of more on an open stream. On an ended one they are refused peeked, as is an end inside a token. A failed read is a fault, and so is out of memory for the error that the input ended.
+/// Too few items are need of more on an open stream. They are refused peeked on an ended one, as is an end inside a token. A failed read is a fault, and so is an error that finds no memory to say that the input ended.
 #[cold]
 pub fn no_range<O, Input: Stream>(
     input: &Input,
@@ -164,9 +164,9 @@ where
     input.uncons_range(n)
 }
 
-/// Accepts the range of the tokens since a checkpoint: committed, or peeked if there are none.
+/// Accepts the range of the tokens since a checkpoint: committed, or peeked where there are none.
 ///
-/// If they can't be read again, the result is the fault `Reset` or `Read`.
+/// If they can't be read again, that is the fault `Reset` or `Read`.
 #[inline(always)]
 pub fn hand_out<Input: RangeStream>(
     start: Input::Checkpoint,

@@ -1,4 +1,4 @@
-//! Laws of `length_prefix`. The functions do nothing: their contracts are the laws.
+//! What `length_prefix` means, stated by functions that do nothing.
 ghost use Rattle.std.specs.Prelude.{◌↔◌};
 ghost use Rattle.combine_base.specs.Parser.Meaning.{SameReasons};
 ghost use Rattle.combine_base.specs.Parser.Outcome.{Outcome};
@@ -10,7 +10,7 @@ use crate::length_prefix::types::LengthPrefix;
 use combine_base::parser::Parser;
 use combine_stream::range::{Range, RangeStream};
 
-/// `length_prefix(p)` reads a length by `p`, and then that many items, which are the value.
+/// The law that a length is read, and then that many items, which are the value.
 #[inline]
 pub fn length_prefix_is_a_length_and_its_items<Input: RangeStream, P: Parser<Input>>(p: &P)
 where
@@ -20,7 +20,7 @@ where
     ensures { (v : View Input.Position Input.Token) (o : Outcome Input.Range) → (⟦<LengthPrefix<Input, P, Input::Range> as Parser<Input>>⟧.meaning (length_prefix_of p.now)).whole v o ↔ prefixed Input.step Input.size Input.spells P.Output.try_into_gives (P.meaning p.now).whole v o }
 {}
 
-/// `length_prefix(p)` has one outcome if `p` has one, and the values that `p` may have at one place are the same length.
+/// The law that it has one outcome where the part has one, and the values that the part may have at one place are the same length.
 #[inline]
 pub fn length_prefix_has_one_outcome<Input: RangeStream, P: Parser<Input>>(p: &P)
 where
@@ -33,9 +33,9 @@ where
     ensures { ⟦<LengthPrefix<Input, P, Input::Range> as Parser<Input>>⟧.determined (length_prefix_of p.now) }
 {}
 
-/// The errors of refusals of `length_prefix(p)`.
+/// The law of its refusals.
 ///
-/// If no length was read, the error is one of `p`, or the error of a value that is no length, made where the call began. After a length it is the error of too few items, or of an end inside a token, made there and explained there.
+/// If no length was read, the error of a refusal is the part's, or that of a value that is no length, made where the call began. After a length it is that of too few items, or of an end inside a token, made there and explained there.
 #[inline]
 pub fn length_prefix_refuses<Input: RangeStream, P: Parser<Input>>(p: &P)
 where

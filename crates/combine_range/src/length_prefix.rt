@@ -1,4 +1,4 @@
-//! `length_prefix`: a length, and then that many items.
+//! A length, and then that many items.
 ghost use Rattle.std.specs.Prelude.{◌≡◌};
 ghost use Rattle.combine_range.specs.LengthParsers.{length_prefix_of};
 
@@ -12,15 +12,15 @@ use prefix::{AsLength, Taking};
 use std::marker::PhantomData;
 use types::LengthPrefix;
 
-/// Parses a length by `p`, and takes that many items after it: tokens of a slice, or bytes of a text.
+/// Takes a range of as many items as the value of `p` says, after what `p` takes: tokens of a slice, or bytes of a text.
 ///
 /// It is committed if `p` is, or if the range isn't empty. It counts as one parser.
 ///
 /// # Errors
 ///
-/// - A refusal of `p` is the result.
-/// - A value that is no `usize` is refused with the message `length out of range`, by an error at the position before `p`. The tokens of `p` are taken.
-/// - Too few items of ended input are refused with the stream put back to after `p`, and so is an end inside a character, as soon as that many bytes are there. The error is at that place too; for too few items it has the end of input as unexpected, and then the next token.
+/// - What `p` refuses is refused alike.
+/// - A value that is no `usize` is refused with the message `length out of range`, by an error that stands at the position before `p`. The tokens of `p` are taken.
+/// - Too few items of ended input are refused with the stream put back to after `p`, and so is an end inside a character, as soon as that many bytes stand there. The error stands there too, says of too few items that the input ended, and then which token is left.
 /// - Both refusals are committed if `p` was.
 /// - Faults are those of `p`, `Read` and `Reset` of the stream, and `Memory` if an error finds none for its text.
 ///
@@ -30,8 +30,8 @@ use types::LengthPrefix;
 ///
 /// # Differences from combine
 ///
-/// - combine keeps the length on need of more.
-/// - combine refuses a value that is no `usize` with the message of the conversion's error.
+/// - The crate's keeps the length on need of more.
+/// - A value that is no `usize` is refused there with the message of the conversion's error.
 ///
 /// # Examples
 ///

@@ -1,4 +1,4 @@
-//! Ranges of the input, and ranges after their length.
+//! Ranges of the input, and ranges behind their length.
 #![tactic(auto)]
 
 pub mod distance;

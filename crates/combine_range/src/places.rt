@@ -1,4 +1,4 @@
-//! The search for the first place of a range.
+//! The first place where a range stands.
 ghost use Rattle.std.specs.Prelude.{◌≡◌};
 ghost use Rattle.combine_base.specs.Stream.Calls.{Passes};
 ghost use Rattle.combine_range.specs.RangeTests.{Seeks, TestsHere};
@@ -7,7 +7,7 @@ ghost use Rattle.combine_range.specs.WantedRanges.{equal_range};
 use combine_base::stream::{Kind, ResetStream, StreamOnce};
 use combine_stream::range::{Range, RangeStream};
 
-/// Returns whether the unread tokens begin with a range, or `None` if there are too few items.
+/// Returns whether the unread tokens begin with a range, if enough items are left to say.
 ///
 /// The stream stays in place, unless a read or a reset fails.
 #[inline(always)]
@@ -38,7 +38,7 @@ where
     }
 }
 
-/// Takes the tokens before the first place of a range, and returns true. If there is none, it takes those before the first place with too few items to compare, and returns false.
+/// Takes the tokens before the first place where a range stands, or else those before the first place from which that can't be told.
 #[inline(always)]
 pub fn seek<Input: RangeStream>(input: &mut Input, wanted: Input::Range) -> Result<bool, Kind>
 where

@@ -1,6 +1,6 @@
-//! Parsers whose values are ranges: parts of the input.
+//! Parsers that give ranges: parts of the input, as they stand there.
 //!
-//! They run over every stream that gives ranges. On need of more each puts the stream back to where it began.
+//! They run over every stream that hands out ranges. On need of more each puts the stream back to where it began.
 ghost use Rattle.std.specs.Prelude.{◌≡◌};
 ghost use Rattle.combine_range.specs.Range.RangeParsers.{range_of, recognize_of, recognize_with_value_of, take_of, take_until_range_of, take_while_of, take_while1_of};
 
@@ -14,16 +14,16 @@ pub use recognized::RecognizeState;
 use std::marker::PhantomData;
 use types::{Range, Recognize, RecognizeWithValue, Take, TakeUntilRange, TakeWhile, TakeWhile1};
 
-/// Takes the next items if they are the given range.
+/// Takes as many first items as the range has, if they are that range.
 ///
 /// The value is the range that was read.
 ///
-/// The acceptance is committed, even for an empty range. The length is checked first: too few items of an open piece are need of more, even if they differ already.
+/// The acceptance is committed, also where the range is empty. The length is judged first: too few items of an open piece are need of more, also where they differ already.
 ///
 /// # Errors
 ///
 /// - Other items are put back and refused peeked. Too few items of ended input, and an end inside a character, are refused peeked.
-/// - The error of a refusal is where the items begin. For too few items it has the end of input as unexpected, else nothing.
+/// - The error of a refusal stands where the items begin. That of too few says that the input ended, another nothing.
 /// - Faults are `Read` and `Reset` of the stream, and `Memory` if an error finds none for its text.
 ///
 /// # Partial input
@@ -51,12 +51,12 @@ pub fn range<Input, R>(wanted: R) -> Range<Input, R>
 
 /// Takes the first `count` items: tokens of a slice, or bytes of a text.
 ///
-/// The acceptance is committed, or peeked if `count` is 0.
+/// The acceptance is committed, or peeked where `count` is 0.
 ///
 /// # Errors
 ///
-/// - Too few items of ended input are refused peeked, and so is an end inside a character, as soon as that many bytes are there.
-/// - The error is where the items begin. For too few items it has the end of input as unexpected, else nothing.
+/// - Too few items of ended input are refused peeked, and so is an end inside a character, as soon as that many bytes stand there.
+/// - The error stands where the items begin. That of too few says that the input ended, the other nothing.
 /// - Faults are `Read` of the stream, and `Memory` if an error finds none for its text.
 ///
 /// # Partial input
@@ -65,7 +65,7 @@ pub fn range<Input, R>(wanted: R) -> Range<Input, R>
 ///
 /// # Differences from combine
 ///
-/// Over partial text combine refuses an end inside a character committed, or requests more.
+/// Over partial text the crate's refuses an end inside a character committed, or asks for more.
 ///
 /// # Examples
 ///
@@ -86,24 +86,24 @@ pub fn take<Input>(count: usize) -> Take<Input>
     }
 }
 
-/// Takes the longest beginning of the input for whose tokens the predicate holds.
+/// Takes the longest beginning whose tokens the predicate holds of.
 ///
 /// `predicate: Fn(Input::Token) -> bool`, or a `Function`.
 ///
-/// The acceptance is committed, or peeked if the beginning is empty.
+/// The acceptance is committed, or peeked where the beginning is empty.
 ///
 /// # Errors
 ///
-/// - It is refused only if a kept distance ends inside a token of other input.
-/// - Faults are `Lost`, if the input is shorter than the kept distance, and `Read` and `Reset` of the stream.
+/// - It is never refused, but from a kept distance that ends inside a token of other input.
+/// - Faults are `Lost`, if the input is shorter than what an earlier call read, and `Read` and `Reset` of the stream.
 ///
 /// # Partial input
 ///
-/// If the beginning is all of an open piece, the result is need of more. The next call doesn't begin again, but skips the items read so far and goes on.
+/// If the beginning is all of an open piece more is asked for. The next call doesn't begin again, but passes over the items read so far and goes on.
 ///
 /// # Differences from combine
 ///
-/// The predicate is an `Fn`; combine takes an `FnMut`.
+/// The predicate is an `Fn`, where the crate takes an `FnMut`.
 ///
 /// # Examples
 ///
@@ -130,7 +130,7 @@ pub fn take_while<Input, F>(predicate: F) -> TakeWhile<Input, F>
 ///
 /// # Errors
 ///
-/// The error is where the call began. If nothing is left of ended input, it is of kind `End` and has the end of input as unexpected; out of memory for that is the fault `Memory`. At a token it is empty. Faults are those of `take_while`.
+/// The error stands where the beginning would. If nothing is left of ended input, it is of kind `End` and says so; one that finds no memory for that is the fault `Memory`. At a token it says nothing. Faults are those of `take_while`.
 ///
 /// # Examples
 ///
@@ -151,18 +151,18 @@ pub fn take_while1<Input, F>(predicate: F) -> TakeWhile1<Input, F>
     }
 }
 
-/// Takes the tokens before the first occurrence of a range.
+/// Takes what stands before the first occurrence of a range.
 ///
-/// The acceptance is committed, or peeked if there are no such tokens. The range occurs where the range that is read there equals it. So it is found at one place only if, among ranges of the same tokens, all equal it or none does.
+/// The acceptance is committed, or peeked where nothing stands before it. The range occurs where the one that is read there is equal to it. So it is found at one place only if ranges of the same tokens are all equal to it or all not.
 ///
 /// # Errors
 ///
-/// - If it doesn't occur in ended input, the result is refused peeked. The error is of kind `End`, is where the call began, however much was searched, and has the end of input as unexpected.
-/// - Faults are `Lost`, if the input is shorter than the kept distance, `Read` and `Reset` of the stream, and `Memory` if an error finds none for its text.
+/// - If it doesn't occur in ended input, that is refused peeked. The error is of kind `End`, stands where the call began, whatever was searched, and says that the input ended.
+/// - Faults are `Lost`, if the input is shorter than what an earlier call searched, `Read` and `Reset` of the stream, and `Memory` if an error finds none for its text.
 ///
 /// # Partial input
 ///
-/// If it isn't found in an open piece, the result is need of more. The next call doesn't begin again, but skips the items that were searched and goes on.
+/// If it isn't found in an open piece more is asked for. The next call doesn't begin again, but passes over the items that were searched and goes on.
 ///
 /// # Examples
 ///
@@ -183,17 +183,17 @@ pub fn take_until_range<Input, R>(wanted: R) -> TakeUntilRange<Input, R>
     }
 }
 
-/// Runs `p`, and returns the range of the tokens that it takes.
+/// Gives the range of the tokens that `p` takes.
 ///
-/// The acceptance is committed, or peeked if `p` takes none, whether or not `p` is committed. It counts as one parser.
+/// The acceptance is committed, or peeked where `p` takes none, whichever kind `p` has. It counts as one parser.
 ///
 /// # Errors
 ///
-/// A refusal of `p` is the result, with its error. Faults are those of `p`, `Lost`, if the input is shorter than the kept distance, and `Read` and `Reset` of the stream.
+/// What `p` refuses is refused alike, with its error. Faults are those of `p`, `Lost`, if the input is shorter than what was read, and `Read` and `Reset` of the stream.
 ///
 /// # Partial input
 ///
-/// On need of more `p` doesn't begin again. The state keeps the number of items that were read and the state of `p`; the next call skips these items and goes on.
+/// On need of more `p` doesn't begin again. The state keeps the items that were read and the state of `p`; the next call passes over these items and goes on.
 ///
 /// # Examples
 ///
@@ -211,7 +211,7 @@ pub fn recognize<P>(p: P) -> Recognize<P>
     Recognize(RecognizeWithValue(p))
 }
 
-/// Returns the range as `recognize` does, and the value of `p`.
+/// Gives the range as `recognize` does, with the value of `p` beside it.
 #[inline]
 pub fn recognize_with_value<P>(p: P) -> RecognizeWithValue<P>
     ensures { result ≡ recognize_with_value_of p }

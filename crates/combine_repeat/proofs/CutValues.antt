@@ -1,4 +1,4 @@
--- turns over a cut: the values before it and those after it are together the values of the whole
+-- turns over a cut: the values before it and those behind it are together those of the whole
 use Rattle.std.proofs.Common.{ℕ, ◌+◌, ◌<◌, ◌≡◌, ◌⊎◌, inl, inr, List, [], ◌∷◌, Bool, true, false, ap, sym, subst, refl, ◌∙◌, lt-ltb}
 use Rattle.combine_base.specs.Stream.View.{View, Takes, advanced, extended, MayFollow}
 use Rattle.combine_base.specs.Stream.Advance.{advanced_extended, advanced_twice, open_follows, decided_stays}
@@ -25,7 +25,7 @@ past_block_with step m m' laws h first again s s' k v u b e d j q x i f bs l t =
     past_block step m m' h first again s s' (extended x i v) (extended x i u) b e (decided_stays (begun m first s) r v x i (outcome b) f tt d) j (ap (extended x i) q ∙ sym (advanced_extended step b.count x i v (r.within v b.value b.count b.committed d))) bs l t
 
 module _ {P T R E A S : Type 0} (step : P → T → P) (m : Meaning P T R E A S) (first : Bool) (s s' : S) (n : ℕ) (old new : View P T) (taken : Takes step n old new) (r : Resumes (begun m first s) (m.rest s') n old new) where
-  -- where a resumed turn stops the turns, the whole turn does
+  -- where a turn that goes on stops the turns, the whole turn does
   stops_whole : (o : Outcome A) (l : Outcome (Unit {0})) → judged Unbounded no_value_ends (iter_turn_place false) o ≡ StopsTurns l → judged Unbounded no_value_ends (iter_turn_place first) (after n false o) ≡ StopsTurns l
   stops_whole (Accepted a c true) l e = absurd (cc)
   stops_whole (Accepted a c false) l e = e
@@ -33,7 +33,7 @@ module _ {P T R E A S : Type 0} (step : P → T → P) (m : Meaning P T R E A S)
   stops_whole (Refused false) l e = e
   stops_whole Undecided l e = e
 
-  -- and where it is a block, the whole turn is, if it takes a token in all or is itself resumed
+  -- and where it is a block, the whole turn is, if it takes a token in all or goes on itself
   goes_whole : (b : Block A) → judged Unbounded no_value_ends (iter_turn_place false) (outcome b) ≡ TakesBlock → (first ≡ true → 0 < n + b.count) → is_block_at Unbounded (iter_turn_place first) (n + b.count) b.committed ≡ true
   goes_whole b e t = by_kind b.committed e first t
     where
@@ -50,7 +50,7 @@ module _ {P T R E A S : Type 0} (step : P → T → P) (m : Meaning P T R E A S)
       let At : View P T → Type 0 = λ u. DividesBlocks step (bounded Unbounded no_value_ends) (λ _. m.whole) l m.whole (iter_turn_place true) bs u in
       (refl, r.gives x i (outcome b) f d.1, ap (accepted_at (n + b.count) b.committed false) (goes_whole b d.2 t), subst At (sym e) d.3)
 
--- a turn that needs more continues after the cut
+-- a turn that needs more goes on behind the cut
 module _ {P T R A S E : Type 0} (w : World P T S E) (m : Meaning P T R E A S) (r : CallRecord P T S) where
   asks_on : Asks w m r → Continues w.step m r.first r.state r.left r.old r.new
   asks_on a = record { count = a.count; taken = a.taken; goes_on = λ x i bs l. over_cut w.step m r.first r.state r.left a.count r.old r.new a.taken a.resumes x i (open_follows r.old.is_open x i a.is_open) bs l }

@@ -1,4 +1,4 @@
--- proofs that skipping forms have the outcomes of collecting ones
+-- repetitions beside one another: the proofs
 use Rattle.std.proofs.Common.{◌≡◌, List, [], ◌∷◌, ap, sym, refl, ◌∙◌}
 use Rattle.combine_base.specs.Stream.View.{View}
 use Rattle.combine_base.specs.Parser.Outcome.{Outcome, Accepted, Refused, Undecided, shape}
@@ -38,12 +38,12 @@ module _ {P T R E A V S Held : Type 0} (step : P → T → P) (held : V → Held
   collected_is_dropped : (v : View P T) (o : Outcome V) → collecting v o → dropping v (shape o)
   collected_is_dropped v o t = record { blocks = t.blocks; last = t.last; held = tt; divided = t.divided; joined = shape_twice o ∙ t.joined; folded = drops_all (values t.blocks); collected = drops_value A o }
 
-  -- the dropped blocks, collected
+  -- the blocks that were dropped, collected
   dropped_is_collected : (v : View P T) (o : Outcome Unit) → dropping v o → (h : Held) × ((i : Outcome V) → shape i ≡ o → HoldsCollected (appended {A = A} held none more heapless) i h → collecting v i)
   dropped_is_collected v o t =
       let f = folds_on held none more heapless none (values t.blocks) in
       (f.0, λ i j q. record { blocks = t.blocks; last = t.last; held = f.0; divided = t.divided; joined = sym (shape_twice i) ∙ ap shape j ∙ t.joined; folded = f.1; collected = q })
 
-  -- repetitions that drop their values, related to those that collect them
+  -- repetitions that drop their values, beside those that collect them
   pub repeated_or_skip : DropsValues (appended held none more heapless) collecting dropping
   repeated_or_skip = record { dropped = collected_is_dropped; collected = dropped_is_collected }

@@ -50,15 +50,15 @@ module _ {N Input It I B C H U Checkpoint T R P E : Type 0} (p : parser.Ghosts N
   abbrev whole_world : World P T (IterateState C It N U) E
   whole_world = world i.step observers i.counts_failures begins_items
 
-  -- the reading of the remaining items, before an item, with this collection
+  -- what is left where the items' turns come, so much being collected
   abbrev left_at : CollectedItems C It → List I → Reading P T C
   left_at l xs = following l.committed unchanged (these (held l.values) xs)
 
-  -- the same, while an item's parser runs
+  -- what is left where an item's parser runs
   abbrev left_in : RunningItem C It N U → List I → Reading P T C
   left_in l xs = following l.before.committed unchanged (these_from ((p.meaning l.parser).rest l.state) (held l.before.values) xs)
 
-  -- the errors of the remaining items: before an item, and while an item's parser runs
+  -- what is left refuses so: where the items' turns come, and where an item's parser runs
   abbrev refused_at : CollectedItems C It → List I → Refusing P T E
   refused_at l xs = items_refuse i.step answers p.meaning observers xs l.is_begun l.committed
 
@@ -68,7 +68,7 @@ module _ {N Input It I B C H U Checkpoint T R P E : Type 0} (p : parser.Ghosts N
   abbrev refused_from : IterateState C It N U → Refusing P T E
   refused_from z = RefusesIterated i.step answers p.meaning observers at lists z
 
-  -- the call has come to the next item
+  -- the call has come so far that the next item's turn comes
   pub record ReachesItem (z : IterateState C It N U) (old now : View P T) (before later : Failures) (l : CollectedItems C It) : Type 0 where
     pub left : List I
     pub given : at l.items left
@@ -84,7 +84,7 @@ module _ {N Input It I B C H U Checkpoint T R P E : Type 0} (p : parser.Ghosts N
     pub lost : (p.meaning l.parser).lost l.state now → all.lost z old
     pub refuses : (w : View P T) (k : Bool) (e : E) → refused_in l left now w k e → refused_from z old w k e
 
-  -- the call has come to the next item, from the state that it was given
+  -- and it began so, from a state that it was given
   pub record LoopsItems (first : Bool) (given : IterateState C It N U) (old now : View P T) (before later : Failures) (l : CollectedItems C It) : Type 0 where
     pub z : IterateState C It N U
     pub from : RunsFrom begins_items first given z
@@ -113,7 +113,7 @@ module _ {N Input It I B C H U Checkpoint T R P E : Type 0} (p : parser.Ghosts N
     refuses = λ u j e w. record { is = (xs, g, w) };
   }
 
-  -- the next item's parser runs, with the stream where it was
+  -- the next item's parser runs, the stream being where it was
   pub runs_next_item : {valid : U → Type 0} (z : IterateState C It N U) (old now there : View P T) (before later then : Failures) (l : CollectedItems C It) (r : ReachesItem z old now before later l) (x : I) (xs : List I) → r.left ≡ x ∷ xs → (n : N) → answers x n → KeptOf p.lawful p.meaning some n → (u : U) → fresh u → IsMeaning fresh valid (p.meaning n) → (rest : It) → at rest xs → there ≡ now → then ≡ later → RunsItem z old there before then (record { before = record { values = l.values; is_begun = l.is_begun; committed = l.committed; items = rest }; parser = n; state = u })
   runs_next_item z old now there before later then l r x xs is n j k u d laws rest g stays fails =
       let q : RunningItem C It N U = record { before = record { values = l.values; is_begun = l.is_begun; committed = l.committed; items = rest }; parser = n; state = u } in
@@ -154,7 +154,7 @@ module _ {N Input It I B C H U Checkpoint T R P E : Type 0} (p : parser.Ghosts N
       let leaves : Leaves whole_world (call_from z state v v f f) = record { count = 0; taken = takes_none i.step v; state = d } in
       record { is = subst (λ y. fails whole_world all (call_from z state v v f f) y) (sym k) (λ y x. m x.1, leaves) }
 
-  -- An item's parser was run; its iterator gives one list.
+  -- An item's parser was run: the lists that its iterator gives are one.
   module _ (given : (it : It) (xs ys : List I) → at it xs → at it ys → xs ≡ ys) (z state : IterateState C It N U) (old : View P T) (before : Failures) (input left : Input) (l : RunningItem C It N U) (reads : before.reads ≤ (i.failures input).reads) (resets : before.resets ≤ (i.failures input).resets) (r : RunsItem z old (i.view input) before (i.failures input) l) where
     abbrev here : Reading P T C
     here = left_in l r.left
@@ -172,7 +172,7 @@ module _ {N Input It I B C H U Checkpoint T R P E : Type 0} (p : parser.Ghosts N
       lost = λ d x. (refl, r.lost x);
     }
 
-    -- the kept parser, which its call may have changed, means the rest of the item
+    -- what is kept of the item's parser, which its call may have changed, means what is left of it
     kept_here : (n : N) → MeansSame (p.meaning l.parser) (p.meaning n) → (stopped : U) (v : View P T) (o : Outcome C) → all.rest (states.Running (record { before = l.before; parser = n; state = stopped })) v o → following l.before.committed unchanged (these_from ((p.meaning l.parser).rest stopped) (held l.before.values) r.left) v o
     kept_here n same stopped v o w =
         let e = given l.before.items w.0 r.left w.1 r.given in
@@ -199,13 +199,13 @@ module _ {N Input It I B C H U Checkpoint T R P E : Type 0} (p : parser.Ghosts N
             here_part : Reading P T C
             here_part = these_from ((p.meaning l.parser).rest l.state) h r.left
 
-    -- the item's value finds no memory
+    -- its value finds no memory
     starved : (stopped : U) (b : B) (k : Bool) → Accepts part_world (p.meaning l.parser) (run stopped) b k → begins_items state → (e : E) → (observers.kind e ≡ kinds.Memory) × (spared → ⊥) → Answers whole_world all (call_from z state old (i.view left) before (i.failures left)) (CommitErr e)
     starved stopped b k a d e m =
         let leaves : Leaves whole_world (call_from z state old (i.view left) before (i.failures left)) = record { count = r.progress.count + a.count; taken = takes_more i.step r.progress.count a.count old (i.view input) (i.view left) r.progress.taken a.taken; state = d } in
         record { is = subst (λ y. fails whole_world all (call_from z state old (i.view left) before (i.failures left)) y) (sym m.0) (λ f x. m.1 x.1, leaves) }
 
-    -- the item's result is the result of the call
+    -- its answer is that of the call
     pub item_stops : (spared → heapless) → (y : ParseResult C E) → CalledItem p i observers fresh held more heapless input left l state (items.Stops y) → Answers whole_world all (call_from z state old (i.view left) before (i.failures left)) y
     item_stops spares y g = by_answer g.answer g.answers g.did g.keeps
       where
@@ -247,7 +247,7 @@ module _ {N Input It I B C H U Checkpoint T R P E : Type 0} (p : parser.Ghosts N
         by_answer (CommitErr e) x d = subst (λ y. Reasoned observers.kind (i.view left).is_open (refused_from z old (i.view left)) y) (stops_as d) (reasons_committed observers.kind (i.view left).is_open (refused_from z old (i.view left)) e (λ n. r.refuses (i.view left) true e (inl (record { is = inl (refl, reason_committed observers.kind (i.view left).is_open _ e x n) }))))
         by_answer (PeekErr t) x d = subst (λ y. Reasoned observers.kind (i.view left).is_open (refused_from z old (i.view left)) y) (stops_as d) (reasons_after observers.kind (i.view left).is_open (refused_from z old (i.view left)) l.before.committed t (r.refuses (i.view left) l.before.committed t.error (inl (record { is = inr (refl, reason_peeked observers.kind (i.view left).is_open _ t x) }))))
 
-    -- the item was accepted, and the next one follows
+    -- it was accepted, and the next item's turn comes
     pub item_goes : {valid : U → Type 0} → IsMeaning fresh valid (p.meaning l.parser) → valid l.state → (next : CollectedItems C It) → CalledItem p i observers fresh held more heapless input left l state (items.Goes next) → begins_items state × ReachesItem z old (i.view left) before (i.failures left) next
     item_goes {valid} laws v next g = by_answer g.answer g.answers g.did g.keeps
       where
@@ -286,11 +286,11 @@ module _ {N Input It I B C H U Checkpoint T R P E : Type 0} (p : parser.Ghosts N
         by_answer (CommitErr e) a d k = absurd (let x : items.Goes next ≡ items.Stops (CommitErr e) = d in cc)
         by_answer (PeekErr t) a d k = absurd (let x : items.Goes next ≡ items.Stops (refused_as l.before.committed t) = d in cc)
 
--- a parser that was just returned may be kept
+-- a parser that was just asked for may be kept
 pub asked_item_kept : {P T R E B N U : Type 0} {lawful some : N → Type 0} (means : N → Meaning P T R E B U) (n : N) → lawful n → some n → KeptOf lawful means some n
 asked_item_kept means n k s = record { is_lawful = k; parser = n; is_given = s; same = same_none (means n) }
 
--- the state that the call leaves is valid
+-- the state that is left is valid
 module _ {N Input It I B C H U Checkpoint T R P E : Type 0} (p : parser.Ghosts N Input U B Checkpoint T R P E) (i : stream.Ghosts Input T R P E) (observers : Observers T R P E) (fresh : U → Type 0) (some : N → Type 0) (held : C → H) (more : H → B → H) (heapless : Type 0) (at : It → List I → Type 0) where
   abbrev kept : N → Type 0
   kept = KeptOf p.lawful p.meaning some
@@ -305,7 +305,7 @@ module _ {N Input It I B C H U Checkpoint T R P E : Type 0} (p : parser.Ghosts N
       by_need (inl k) = rw k.1 (still, k.2, given)
       by_need (inr k) = items_start_valid kept p.valid at state k.1
 
-  -- the remaining items are those from before
+  -- the items that are left are those that were left
   pub item_passes : {input left : Input} {l : RunningItem C It N U} {state : IterateState C It N U} {next : CollectedItems C It} → CalledItem p i observers fresh held more heapless input left l state (items.Goes next) → next.items ≡ l.before.items
   item_passes {input} {left} {l} {state} {next} g = by_answer g.answer g.did
     where

@@ -1,4 +1,4 @@
--- whether an accepted turn is a block, and what a failed reset leaves
+-- whether a turn that is accepted is a block, and what a turn leaves that could not be put back
 use Rattle.std.proofs.Common.{ℕ, ◌+◌, ◌<◌, ◌≤◌, ◌≡◌, arith, Bool, true, false, sym, ◌∙◌}
 use Rattle.std.proofs.lemmas.Bool.{false≢true}
 use Rattle.combine_base.specs.Stream.View.{View, Takes, Moves}

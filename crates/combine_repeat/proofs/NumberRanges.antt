@@ -6,7 +6,7 @@ use Rattle.std.specs.declared.ops.Range.{Range}
 use Rattle.std.specs.Range.{range_steps}
 use Rattle.combine_repeat.specs.ListedItems.{ListsItems, gives_items}
 
--- a call gives the start, and adds one to it
+-- a call gives the start, and moves it up by one
 abbrev pub range_calls : Range ℕ → Option ℕ → Range ℕ → Type 0
 range_calls = range_steps (λ a b. b - a) (λ a b. b ≡ a + 1)
 

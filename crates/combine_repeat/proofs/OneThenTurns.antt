@@ -1,4 +1,4 @@
--- turns with a required first one are that turn, and then turns under the rule of `many`
+-- turns of which the first is asked for are that one, and then turns under the rule of `many`
 use Rattle.std.proofs.Common.{ℕ, ◌+◌, ◌≡◌, List, [], ◌∷◌, Bool, true, false, ◌||◌, None, arith, ap, sym, refl, ◌∙◌, ◌↔◌}
 use Rattle.combine_base.specs.Stream.View.{View, advanced}
 use Rattle.combine_base.specs.Parser.Outcome.{Outcome, Accepted, Refused, Undecided, after, shape, or_assoc, shape_after}
@@ -11,7 +11,7 @@ use Rattle.combine_repeat.specs.Repeat.OneThenTurns.{one_then_turns, then_turns}
 use Rattle.combine_repeat.specs.declared.bounds.Bounds.TheVariants.{Unbounded, OwnFirst}
 use Rattle.combine_repeat.specs.declared.bounds.TurnIndex.{TurnIndex}
 
--- the places of the first turn, and of the turn after a required first one
+-- the places of the first turn, and of one behind the first that is asked for
 abbrev at_first : TurnIndex
 at_first = record { number = 0; took_before = false }
 
@@ -54,7 +54,7 @@ module _ {P T A V : Type 0} (step : P → T → P) (c : Collecting A V) (first l
   alone v l (Refused x) Undecided e j = absurd (let q : l ≡ Undecided = cc in cc)
   alone v l Undecided Undecided e j = refl
 
-  -- the turns after the first, which took n tokens, committed or not
+  -- what is behind the first, of which n tokens and its kind are known
   record Behind (n m : ℕ) (k d : Bool) (l : Outcome (Unit {0})) (h : c.Held) (o : Outcome V) : Type 0 where
     rest : Outcome V
     joined : shape rest ≡ after m d l

@@ -1,4 +1,4 @@
--- the result of one turn: whether it is a block, and a peeked refusal that is put back, or could not be
+-- what one turn answers: whether it is a block, and a peeked refusal that is put back, or could not be
 use Rattle.std.proofs.Common.{ℕ, ◌+◌, ◌<◌, ◌≤◌, ◌≡◌, arith, Bool, true, false, ◌||◌, if◌then◌else◌, Option, Some, None, ap, refl, sym, ◌∙◌}
 use Rattle.combine_base.specs.Stream.View.{View, Takes, Moves}
 use Rattle.combine_base.specs.Parser.Outcome.{Outcome, Refused}
@@ -33,7 +33,7 @@ module _ {P T R E A S : Type 0} where
   pub turns_same_more : (m : Meaning P T R E A S) (a : Start P T E A) (m' : Meaning P T R E A S) (a' : Start P T E A) (n : Meaning P T R E A S) (b : Start P T E A) → TurnsSame m a m' a' → TurnsSame m' a' n b → TurnsSame m a n b
   turns_same_more m a m' a' n b h k = record { meaning = same_more m m' n h.meaning k.meaning; later = record { reads = λ v o. (λ p. (k.later.reads v o).0 ((h.later.reads v o).0 p), λ p. (h.later.reads v o).1 ((k.later.reads v o).1 p)); refuses = λ v w i e. (λ p. (k.later.refuses v w i e).0 ((h.later.refuses v w i e).0 p), λ p. (h.later.refuses v w i e).1 ((k.later.refuses v w i e).1 p)) } }
 
--- turns that mean the same, from each start
+-- turns that mean the same, wherever they begin
 pub called_same : {P T R E A S : Type 0} (m : Meaning P T R E A S) (again : Start P T E A) (m' : Meaning P T R E A S) (again' : Start P T E A) → TurnsSame m again m' again' → (later : Bool) → MeansSame (called m again later) (called m' again' later)
 called_same m again m' again' h true = let x = h.meaning in record { whole = h.later.reads; rest = x.rest; lost = x.lost; keeps = x.keeps; puts_back = x.puts_back; heapless = x.heapless; adds = x.adds; refuses = h.later.refuses; refuses_from = x.refuses_from }
 called_same m again m' again' h false = let x = h.meaning in record { whole = x.whole; rest = x.rest; lost = x.lost; keeps = x.keeps; puts_back = x.puts_back; heapless = x.heapless; adds = x.adds; refuses = x.refuses; refuses_from = x.refuses_from }
@@ -42,18 +42,18 @@ module _ {P T R A S E : Type 0} {w : World P T S E} {m : Meaning P T R E A S} wh
   pub accepts_by : {r : CallRecord P T S} {x : A × Bool} {a : A} {k : Bool} → x ≡ (a, k) → Accepts w m r a k → Accepts w m r x.0 x.1
   accepts_by e p = rw e p
 
-  -- the call at its result, and after the stream was put back
+  -- the call as it is at its answer, and as it is when the stream was put back
   pub turn_put_back : {first : Bool} {state left : S} {old now new : View P T} {before later after : Failures} {e : Tracked E} → Answers w m (record { first = first; state = state; left = left; old = old; new = now; before = before; after = later }) (PeekErr e) → new ≡ old → (w.counts_failures → after ≡ later) → Refuses w m (record { first = first; state = state; left = left; old = old; new = new; before = before; after = after }) false
   turn_put_back {old} {e} p n f =
       let y = peeked_refusal w m _ (w.kind e.error) p.is in
       record { meant = y.meant; leaves = record { count = 0; taken = rw n (takes_none w.step old); state = y.leaves.state }; failures = λ s. f s ∙ y.failures s }
 
--- a call at the place where it is judged
+-- a call, as it is where it is judged
 module _ {P T R A S E : Type 0} (w : World P T S E) (m : Meaning P T R E A S) (stands : View P T → Type 0) (now : View P T) (after : Failures) (r : CallRecord P T S) (n : CallEndedAt stands now after r) where
   pub ran_answers : (x : ParseResult A E) → Answers w m r x → Answers w m (then_left r now after) x
   ran_answers x p = rw (sym n.new, sym n.failures) p
 
--- a turn that needs more, and began at this place
+-- a turn that needs more, and began where that stands
 module _ {P T R A V S E : Type 0} (w : World P T S E) (b : Bounds) (ending : A → Bool) (c : Collecting A V) (m : Meaning P T R E A S) (stands : View P T → Type 0) (r : CallRecord P T S) (s : stands r.old) where
   pub needs_on : (t i : TurnProgress V) (e : E) → (w.kind e ≡ kinds.End) × (r.new.is_open ≡ true) → Answers w m r (CommitErr e) → ((k : ℕ) (v : View P T) → stands v → Takes w.step k v r.new → i ≡ record { into = t.into; committed = t.committed; index = cut_at t.index k }) → TurnNeedsMore w b ending c m r t i e
   needs_on t i e q p h =
@@ -70,11 +70,11 @@ module _ {P T R A V S E : Type 0} (w : World P T S E) (b : Bounds) (ending : A �
       let a = h.2 in
       Unreset (q ∙ h.0) (omega arith) (record { count = y.count + x.count; taken = takes_more w.step y.count x.count old now new y.taken x.taken; state = y.state })
 
--- a turn that is gathered, and the start of the next one
+-- a turn that is gathered, and what the next one begins with
 pub gathered_on : {A V Held : Type 0} (held : V → Held) (more : Held → A → Held → Type 0) (b : Bounds) (old joined new : TurnProgress V) (value : A) (next : TurnIndex) (k : Bool) → IsGathered held more joined value next new → joined ≡ record { into = old.into; committed = old.committed || k; index = old.index } → next ≡ turn_after b old.index → more (held old.into) value (held new.into) × (so_far held new ≡ record { mark = turn_after b old.index; held = held new.into; committed = old.committed || k })
 gathered_on held more b old joined new value next k g e l = let h = rw (e, l) at g in (h.more_held, rw (h.index, h.committed) refl)
 
--- the results of bounds for a refused turn, and for an accepted one
+-- what bounds said of a refused turn, and of an accepted one
 pub lacks_nothing : (e o : Bool) (n : ℕ) → lack_by e o n ≡ lack.Nothing → e ≡ true
 lacks_nothing true o n i = refl
 lacks_nothing false true n i = absurd (cc)
@@ -103,7 +103,7 @@ none_next true next i = absurd (cc)
 none_next false next i = refl
 
 module _ {P T R A S E : Type 0} {w : World P T S E} {b : Bounds} {ending : A → Bool} {m : Meaning P T R E A S} {r : CallRecord P T S} {index : TurnIndex} {x : A × Bool} {a : A} {k : Bool} (e : x ≡ (a, k)) (p : Accepts w m r a k) (o : ending x.0 ≡ false) {next : Option TurnIndex} (h : (n : ℕ) → Takes w.step n r.old r.new → next ≡ next_at b index n x.1) where
-  -- the turn is a block, and this is the index of the next one
+  -- the turn is a block, and that is the place of the next one
   pub goes_by : (g : TurnIndex) → next ≡ Some g → JudgesTurn w b ending m r index x true × (g ≡ turn_after b index)
   goes_by g i =
       let q : Accepts w m r x.0 x.1 = rw e p in
@@ -116,7 +116,7 @@ module _ {P T R A S E : Type 0} {w : World P T S E} {b : Bounds} {ending : A →
       let q : Accepts w m r x.0 x.1 = rw e p in
       record { accepts = q; on = o; says = sym (none_next (is_block_at b index q.count x.1) (turn_after b index) (sym (h q.count q.taken) ∙ i)) }
 
--- the result of a turn of one parser is one of another parser that means the same
+-- what a turn of one parser did is what it did of another that means the same
 module _ {P T R A S E : Type 0} (w : World P T S E) (b : Bounds) (ending : A → Bool) (m m' : Meaning P T R E A S) (h : MeansSame m m') (r : CallRecord P T S) where
   begun_back : (first : Bool) (o : Outcome A) → begun m' first r.state r.old o → begun m first r.state r.old o
   begun_back true o p = (h.whole r.old o).1 p

@@ -1,4 +1,4 @@
--- one call of a repetition: the starts of its turns, and each way out of them
+-- one call of a repetition: where its turns begin, and each way out of them
 use Rattle.std.proofs.Common.{ℕ, ◌+◌, ◌-◌, ◌<◌, ◌≤◌, ◌≡◌, Bool, true, false, ◌&&◌, ◌||◌, not, if◌then◌else◌, nat_lt, Some, None, length, drop, arith, ap, sym, refl, ◌∙◌, length-drop, ltb-true, ltb-false, subst}
 use Rattle.combine_base.specs.Error.Errors.{Observers}
 use Rattle.combine_base.specs.Stream.View.{View, Takes}
@@ -28,7 +28,7 @@ use Rattle.combine_repeat.specs.declared.turns.TurnsState.{TurnsState}
 use Rattle.combine_repeat.specs.declared.turns.Earlier.{Earlier}
 use Rattle.combine_repeat.specs.declared.turns.Earlier.TheVariants.{Nothing, Gathered}
 
--- the number of turns that may still take nothing
+-- the turns that may still take nothing
 abbrev pub idle_turns : Bounds → TurnIndex → ℕ
 idle_turns Unbounded g = if g.took_before then 1 else 0
 idle_turns (OwnFirst least most) g = if nat_lt g.number 1 then 1 else (if g.took_before then 1 else 0)
@@ -67,7 +67,7 @@ at_least_one least = by_test (nat_lt least 1) refl
     by_test true e = omega arith
     by_test false e = let x = ltb-false least 1 e in omega arith
 
--- a turn that is a block took a token, unless it need not
+-- a turn that is a block took a token, or it was one that needn't
 pub turns_run_out : {P T : Type 0} {step : P → T → P} (b : Bounds) (g : TurnIndex) (n : ℕ) (k : Bool) (u v : View P T) → Takes step n u v → full_at b g ≡ false → is_block_at b g n k ≡ true → length v.unread + idle_turns b (turn_after b g) < length u.unread + idle_turns b g
 turns_run_out b g n k u v t f e = by_bounds b f e
   where
@@ -110,11 +110,11 @@ pub resumed_valid : {S : Type 0} (valid : S → Type 0) (r s : S) → r ≡ s �
 resumed_valid valid r s e d = rw e d
 
 module _ {P T R A V S E : Type 0} (w : World P T S E) (errors : Observers T R P E) (b : Bounds) (ending : A → Bool) (c : Collecting A V) (start : TurnsSoFar TurnIndex c.Held) (m : Meaning P T R E A S) (again : Start P T E A) where
-  -- a call with this start has come to a place where this turn begins
+  -- a call that began so has come to a place where a turn begins so
   abbrev pub ReachesBoundedTurn : Bool → TurnsState V S → View P T → Failures → Bool → Bool → S → View P T → Failures → TurnProgress V → Type 0
   ReachesBoundedTurn first state old before later turn_first turn_state now failures t = ReachesTurn w (fresh_turns w.fresh) (bounded b ending) (bounded_is_rule b ending) c (λ _. again.reads) (called m again later) (turns_from w.step errors b ending c start m again) first state old before turn_first turn_state now failures (so_far c.held t)
 
-  -- in first mode the running turn's state doesn't matter
+  -- in first mode the state of the turn that runs doesn't matter
   pub reaches_turn_first : (first : Bool) (state : TurnsState V S) (running : S) (old : View P T) (before : Failures) (from t : TurnProgress V) → so_far c.held from ≡ start → t ≡ (if first then from else kept_or from state.earlier) → (first ≡ false → running ≡ running_turn state) → ReachesBoundedTurn first state old before false first running old before t
   reaches_turn_first true state running old before from t e i j = record {
     progress = rw (i, e) (progress_none w (TurnsOutcome w.step (bounded b ending) c (λ _. again.reads) m.whole start) old before);
@@ -129,7 +129,7 @@ module _ {P T R A V S E : Type 0} (w : World P T S E) (errors : Observers T R P 
       kept Nothing = e
       kept (Gathered t) = refl
 
-  -- a call in first mode, for each state of its turn
+  -- a call in first mode, whatever the state of its turn is
   pub reaches_turn_afresh : (first : Bool) (state : TurnsState V S) (running : S) (old : View P T) (before : Failures) (from t : TurnProgress V) → first ≡ true → so_far c.held from ≡ start → t ≡ (if first then from else kept_or from state.earlier) → ReachesBoundedTurn first state old before false true running old before t
   reaches_turn_afresh true state running old before from t f e i = reaches_turn_first true state running old before from t e i (λ x. absurd (cc))
   reaches_turn_afresh false state running old before from t f e i = absurd (cc)
@@ -152,7 +152,7 @@ module _ {P T R A V S E : Type 0} (w : World P T S E) (errors : Observers T R P 
   accepted_answer u v true x = record { is = x }
   accepted_answer u v false x = record { is = x }
 
-  -- no further turn runs
+  -- no turn runs any more
   pub reaches_turn_full : (u : CallRecord P T (TurnsState V S)) (later turn_first : Bool) (s : S) (t : TurnProgress V) → ReachesBoundedTurn u.first u.state u.old u.before later turn_first s u.new u.after t → full_at b t.index ≡ true → fresh_turns w.fresh u.left → (result : ParseResult V E) → result ≡ accepted_as t.committed t.into → Answers (around w (fresh_turns w.fresh)) (turns_from w.step errors b ending c start m again) u result
   reaches_turn_full u later turn_first s t z f l result e =
       let running = begun (called m again later) turn_first s in
@@ -168,7 +168,7 @@ module _ {P T R A V S E : Type 0} (w : World P T S E) (errors : Observers T R P 
       }))
 
   module _ (u : CallRecord P T (TurnsState V S)) (later : Bool) (r : CallRecord P T S) (t : TurnProgress V) (z : ReachesBoundedTurn u.first u.state u.old u.before later r.first r.state r.old r.before t) (nf : full_at b t.index ≡ false) where
-    -- the reason why no further turn runs gives the result of the call
+    -- why no turn runs any more is what the call answers
     module _ (state : TurnsState V S) (cleared : state.earlier ≡ Nothing) (running : state.running ≡ r.left) (new : u.new ≡ r.new) (failures : u.after ≡ r.after) (reads : u.before.reads ≤ r.before.reads) (resets : u.before.resets ≤ r.before.resets) where
       settled : u.left ≡ state → w.fresh r.left → fresh_turns w.fresh u.left
       settled l d = rw l (cleared, rw running d)
@@ -183,7 +183,7 @@ module _ {P T R A V S E : Type 0} (w : World P T S E) (errors : Observers T R P 
       comes_refused : (n : TurnProgress V) (e : Tracked E) → IsTurnRefused w b ending c (called m again later) r t n e → u.left ≡ state → Answers (around w (fresh_turns w.fresh)) (turns_from w.step errors b ending c start m again) u (stopped_answer (stop.Refused n e))
       comes_refused n e p l = rw p.turns (turn_peeks w (fresh_turns w.fresh) (bounded b ending) (bounded_is_rule b ending) c (λ _. again.reads) (called m again later) (turns_from w.step errors b ending c start m again) u r (so_far c.held t) z nf e _ (ap (λ x. refused_at x false) p.missing) refl p.answers (ends l))
 
-      -- the turns so far are kept, and the running turn
+      -- the turns so far are kept, and the turn that runs
       comes_more : (n : TurnProgress V) (e : E) → TurnNeedsMore w b ending c (called m again later) r t n e → u.left ≡ record { earlier = Gathered n; running = state.running } → Answers (around w (fresh_turns w.fresh)) (turns_from w.step errors b ending c start m again) u (CommitErr e)
       comes_more n e p l = needs w (fresh_turns w.fresh) (called m again later) (turns_from w.step errors b ending c start m again) r u e p.needs p.answers (takes_open w.step z.progress.count u.old r.old z.progress.taken) asks
         where

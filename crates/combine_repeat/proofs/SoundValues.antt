@@ -1,4 +1,4 @@
--- the values of turns, and the invariant of their collection
+-- the values that turns give, and what is gathered of them
 use Rattle.std.proofs.Common.{◌≡◌, Bool, true, false, if◌then◌else◌, nat_lt, ap, sym}
 use Rattle.combine_base.specs.Parser.GivenValues.{ReadsOnly}
 use Rattle.combine_base.specs.Parser.Meaning.{Meaning, begun}
@@ -35,12 +35,12 @@ module _ {V : Type 0} (sound : Bool → V → Type 0) (start : TurnProgress V) (
   kept_begun Nothing p = h
   kept_begun (Gathered t) p = p t (cc)
 
-  -- the start of a call is sound
+  -- what a call begins with is sound
   pub begun_sound : {S : Type 0} (first : Bool) (state : TurnsState V S) (t : TurnProgress V) → kept_sound sound state → t ≡ (if first then start else kept_or start state.earlier) → sound_at sound t
   begun_sound true state t p e = rw e h
   begun_sound false state t p e = rw e (kept_begun state.earlier p)
 
--- the contents stay sound
+-- what is held stays sound
 module _ {A V : Type 0} (b : Bounds) (ending : A → Bool) (sound : Bool → V → Type 0) where
   accepted_sound : (E : Type 0) (k : Bool) (v : V) → EndsSound b ending sound v → of_value b ending {E = E} sound (accepted_as k v)
   accepted_sound E true v d = d
@@ -50,7 +50,7 @@ module _ {A V : Type 0} (b : Bounds) (ending : A → Bool) (sound : Bool → V �
   refused_sound true t = tt
   refused_sound false t = tt
 
-  -- turns that end where the most that are allowed have run
+  -- turns that end where there are as many as there may be
   pub full_sound : {S E : Type 0} (t : TurnProgress V) → sound_at sound t → full_at b t.index ≡ true → (left : TurnsState V S) (result : ParseResult V E) → left.earlier ≡ Nothing → result ≡ accepted_as t.committed t.into → LeavesSound b ending sound left result
   full_sound t h f left result e i = rw i (record { kept = λ n j. absurd (cc); value = accepted_sound _ t.committed t.into (record { place = t.index; ends = Full f; is = h }) })
 

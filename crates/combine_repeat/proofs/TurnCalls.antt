@@ -1,4 +1,4 @@
--- the turns of one call: each continues, and each way out is a result of the repetition
+-- the turns of one call: each goes on, and each way out is an answer of what runs them
 use Rattle.std.proofs.Common.{ℕ, ◌+◌, ◌≤◌, ◌<◌, ◌≡◌, ◌⊎◌, inl, inr, Bool, true, false, ◌||◌, length, drop, arith, ap, sym, refl, ◌∙◌, length-drop}
 use Rattle.combine_base.specs.Stream.View.{View, Takes}
 use Rattle.combine_base.specs.Parser.Outcome.{Outcome, Accepted, Refused, Undecided, after, shape, or_true, or_false}
@@ -17,7 +17,7 @@ use Rattle.combine_base.specs.declared.error.tracked.Tracked.{Tracked}
 use Rattle.combine_base.specs.declared.error.result.ParseResult.{ParseResult}
 use Rattle.combine_base.specs.declared.error.result.ParseResult.TheVariants.{CommitErr, PeekErr}
 
--- a call that takes all remaining tokens has taken all
+-- a call that takes all that is left has taken all
 every_token : {P T : Type 0} {step : P → T → P} (n m : ℕ) (u v : View P T) → Takes step n u v → m ≡ length v.unread → n + m ≡ length u.unread
 every_token n m u v t e =
     let a = t.enough in
@@ -25,7 +25,7 @@ every_token n m u v t e =
     omega (arith, length-drop n u.unread)
 
 module _ {P T R A V S U E Mark : Type 0} (w : World P T S E) (fresh : U → Type 0) (rule : Rule A Mark) (hr : IsRule rule) (c : Collecting A V) (turn : Mark → Reading P T A) (m : Meaning P T R E A S) (whole : Meaning P T R E V U) where
-  -- a call of the whole with this start has come to a place where this turn begins
+  -- a call of the whole that began so has come to a place where a turn begins so
   pub record ReachesTurn (first : Bool) (state : U) (old : View P T) (before : Failures) (turn_first : Bool) (turn_state : S) (now : View P T) (later : Failures) (s : TurnsSoFar Mark c.Held) : Type 0 where
     pub progress : Progress w (begun whole first state) (TurnsOutcome w.step rule c turn (begun m turn_first turn_state) s) old now before later
     pub lost : turn_first ≡ false → m.lost turn_state now → (first ≡ false) × whole.lost state old
@@ -75,7 +75,7 @@ module _ {P T R A V S U E Mark : Type 0} (w : World P T S E) (fresh : U → Type
         by_commitment true x = record { is = x }
         by_commitment false x = record { is = x }
 
-    -- a peeked refusal that is the refusal of the whole, committed if a block was
+    -- a peeked refusal that is that of the whole, committed if a block was
     pub turn_peeks : (e : Tracked E) (result : ParseResult V E) → rule.judge s.mark (Refused false) ≡ StopsTurns (Refused false) → result ≡ refused_as s.committed e → Answers w m r (PeekErr e) → EndsWithTurn → Answers (around w fresh) whole u result
     turn_peeks e result j i p k = rw i (by_commitment s.committed refused)
       where
@@ -106,7 +106,7 @@ module _ {P T R A V S U E Mark : Type 0} (w : World P T S E) (fresh : U → Type
         by_commitment true f = record { is = committed (w.kind e.error) f p.is }
         by_commitment false f = record { is = peeked (w.kind e.error) f p.is }
 
-    -- a turn that the rule refuses, with an error of its own
+    -- a turn that the rule refuses, with an error that says why
     pub turn_told : (i : Outcome A) (d : E) → begun m r.first r.state r.old i → rule.judge s.mark i ≡ StopsTurns (Refused true) → IsRefusalOrMemory w.kind w.heapless d → EndsWithTurn → Leaves w r → (w.counts_failures → r.after ≡ r.before) → Answers (around w fresh) whole u (CommitErr d)
     turn_told i d b j t k y a = by_kind t.is
       where
@@ -114,7 +114,7 @@ module _ {P T R A V S U E Mark : Type 0} (w : World P T S E) (fresh : U → Type
         by_kind (inl e) = record { is = rw e (rw (or_true s.committed) at (turn_refuses i true b j k y a)) }
         by_kind (inr e) = record { is = rw e.0 (λ f l. e.1 f, leaves k y) }
 
-    -- the turn's value found no memory
+    -- what a turn gave found no memory
     pub turn_unstored : (d : E) → w.kind d ≡ kinds.Memory → (whole.heapless → ⊥) → EndsWithTurn → Leaves w r → Answers (around w fresh) whole u (CommitErr d)
     turn_unstored d e b k y = record { is = rw e (λ f. b, leaves k y) }
 
@@ -129,7 +129,7 @@ module _ {P T R A V S U E Mark : Type 0} (w : World P T S E) (fresh : U → Type
         let y = turned_block w.step rule hr c turn running i s h r.old (record { value = a; count = p.count; committed = k }) p.meant nf j q in
         progress_more w (begun whole u.first u.state) (TurnsOutcome w.step rule c turn running s) (TurnsOutcome w.step rule c turn (turn (rule.next s.mark)) (after_a_block w.step rule hr c turn s h k)) u.old r.old r.new u.before r.before r.after z.progress (record { count = p.count; taken = p.taken; resumes = rw p.taken.rest y; failures = p.failures })
 
-    -- on need of more the state keeps the turns so far and the running turn
+    -- need of more: what is kept then is the turns so far, and the turn that runs
     pub record KeepsTurn (n : ℕ) : Type 0 where
       pub rest : (v : View P T) (o : Outcome V) → whole.rest u.left v o → TurnsOutcome w.step rule c turn (m.rest r.left) (after_a_cut w.step rule hr c turn s n) v o
       pub lost : (v : View P T) → whole.lost u.left v → m.lost r.left v

@@ -1,4 +1,4 @@
--- the errors of turns: each refusal of the remaining turns is one of the call
+-- the errors of turns: what the turns that are left are refused with is what the call is refused with
 use Rattle.std.proofs.Common.{ℕ, ◌≡◌, [], ◌∷◌, Bool, true, false, ◌||◌, if◌then◌else◌, refl, sym, subst, ◌∙◌}
 use Rattle.combine_base.specs.Error.Errors.{Observers}
 use Rattle.combine_base.specs.Parser.Answer.{CallRecord, World}
@@ -22,17 +22,17 @@ use Rattle.combine_repeat.specs.declared.turns.TurnProgress.{TurnProgress}
 use Rattle.combine_repeat.specs.declared.turns.TurnsState.{TurnsState}
 use Rattle.combine_repeat.proofs.RepeatCalls.{judged_goes}
 
--- turns at the same place, after the same blocks
+-- turns at the same place, behind the same ones
 module _ {P T R A E : Type 0} (step : P → T → P) (errors : Observers T R P E) (b : Bounds) (ending : A → Bool) (later s : Start P T E A) (v w : View P T) (committed : Bool) (e : E) where
   placed : (g g' : TurnIndex) (k k' : Bool) → g ≡ g' → k ≡ k' → RefusesOnward step errors b ending later s g k v w committed e → RefusesOnward step errors b ending later s g' k' v w committed e
   placed g g' k k' i j x = subst (λ z. RefusesOnward step errors b ending later s z k' v w committed e) i (subst (λ z. RefusesOnward step errors b ending later s g z v w committed e) j x)
 
 module _ {P T R A V S E : Type 0} (step : P → T → P) (errors : Observers T R P E) (b : Bounds) (ending : A → Bool) (c : Collecting A V) (start : TurnsSoFar TurnIndex c.Held) (m : Meaning P T R E A S) (again : Start P T E A) where
-  -- each refusal of the remaining turns, from that place on, is one of the call
+  -- what the turns that are left are refused with, from that place on, the call is refused with
   pub record LeadsRefusals (first : Bool) (state : TurnsState V S) (old : View P T) (s : Start P T E A) (g : TurnIndex) (k : Bool) (now : View P T) : Type 0 where
     pub is : (new : View P T) (committed : Bool) (e : E) → RefusesOnward step errors b ending again s g k now new committed e → begun_refuses (turns_from step errors b ending c start m again) first state old new committed e
 
-  -- a call begins with the kept turn, or in first mode with the first
+  -- a call begins with the turn that is kept, or in first mode with the first
   pub leads_from : (first : Bool) (state : TurnsState V S) (s : S) (g : TurnIndex) (k : Bool) (old : View P T) → (first ≡ true → (g ≡ start.mark) × (k ≡ start.committed)) → (first ≡ false → (s ≡ running_turn state) × (g ≡ (so_far_or start c.held state.earlier).mark) × (k ≡ (so_far_or start c.held state.earlier).committed)) → LeadsRefusals first state old (started (called m again false) first s) g k old
   leads_from true state s g k old i j = record { is = λ new d e x. placed step errors b ending again (from_start m) old new d e g start.mark k start.committed (i refl).0 (i refl).1 x }
   leads_from false state s g k old i j =
@@ -44,7 +44,7 @@ module _ {P T R A V S E : Type 0} (step : P → T → P) (errors : Observers T R
       }
 
   module _ (s : Start P T E A) (old new : View P T) (first : Bool) (state : TurnsState V S) (begun_at : View P T) where
-    -- the running turn is the refusal
+    -- the turn that runs is the refusal
     here : (g : TurnIndex) (k : Bool) → full_at b g ≡ false → LeadsRefusals first state begun_at s g k old → (own committed : Bool) (e : E) → RefusesHere step errors b ending s g old new own e → committed ≡ (k || own) → begun_refuses (turns_from step errors b ending c start m again) first state begun_at new committed e
     here g k nf h own committed e x i = h.is new committed e (record { blocks = []; is = (nf, own, x, i) })
 
@@ -71,7 +71,7 @@ module _ {P T R A V S E : Type 0} (step : P → T → P) (errors : Observers T R
 
 -- a turn that is a block
 module _ {P T R A V S E : Type 0} (w : World P T S E) (errors : Observers T R P E) (b : Bounds) (ending : A → Bool) (c : Collecting A V) (start : TurnsSoFar TurnIndex c.Held) (m : Meaning P T R E A S) (again : Start P T E A) where
-  -- the tokens that it took, and the turns after it
+  -- what it took, and the turns behind it
   behind : (s : Start P T E A) (g : TurnIndex) (k : Bool) (a : A) (n : ℕ) (committed : Bool) (t : TurnProgress V) (h : c.Held) (old new : View P T) → so_far c.held t ≡ record { mark = turn_after b g; held = h; committed = k || committed } → full_at b g ≡ false → s.reads old (Accepted a n committed) → judged b ending g (Accepted a n committed) ≡ TakesBlock → new ≡ advanced w.step n old → (left : View P T) (d : Bool) (e : E) → RefusesOnward w.step errors b ending again again t.index t.committed new left d e → RefusesOnward w.step errors b ending again s g k old left d e
   behind s g k a n committed t h old new i nf p q j left d e x =
       let y = subst (λ (z : TurnsSoFar TurnIndex c.Held). RefusesOnward w.step errors b ending again again z.mark z.committed new left d e) i x in
@@ -83,7 +83,7 @@ module _ {P T R A V S E : Type 0} (w : World P T S E) (errors : Observers T R P 
       let a = g.judged.accepts in
       record { is = λ left d e x. h.is left d e (behind (started (called m again later) r.first r.state) t.index t.committed g.turn.0 a.count g.turn.1 n g.held r.old r.new g.turns nf a.meant (judged_goes a.count g.turn.1 (ending g.turn.0) (is_block_at b t.index a.count g.turn.1) g.judged.on g.judged.says) a.taken.rest left d e x) }
 
--- a call in first mode, for each kept state, or one that resumes from a kept state, if there is one
+-- a call in first mode, whatever is kept, or one that resumes what is kept, if something is
 module _ {P T R A V S E : Type 0} (step : P → T → P) (errors : Observers T R P E) (b : Bounds) (ending : A → Bool) (c : Collecting A V) (from : TurnProgress V) (m : Meaning P T R E A S) (again : Start P T E A) where
   place_of : (k : Earlier V) → (kept_or from k).index ≡ (so_far_or (so_far c.held from) c.held k).mark
   place_of Nothing = refl
@@ -113,6 +113,6 @@ module _ {P T R A V E : Type 0} (step : P → T → P) (errors : Observers T R P
   stops_into (stop.More n d) x = record { is = x.is }
   stops_into (stop.Failed d) x = record { is = λ i. here_into step errors b ending s s' h t.index old new true d (x.is i) }
 
--- the stop of a turn that means the same, related to the stop of the call
+-- what a turn stops with that means the same as that of the call
 pub stops_same : {P T R A V S E : Type 0} (step : P → T → P) (errors : Observers T R P E) (b : Bounds) (ending : A → Bool) (m m' : Meaning P T R E A S) → MeansSame m m' → (first : Bool) (s : S) (old new : View P T) (t : TurnProgress V) (why : TurnStop V E) → StopRefuses step errors b ending (started m' first s) old new t why → StopRefuses step errors b ending (started m first s) old new t why
 stops_same step errors b ending m m' h first s old new t = stops_into step errors b ending (started m' first s) (started m first s) (started_into m m' h first s) old new t

@@ -1,4 +1,4 @@
--- turns continue: past a turn that is a block, over a cut inside a turn, and to the stop
+-- turns go on: past a turn that is a block, over a cut inside a turn, and to the stop
 use Rattle.std.proofs.Common.{ℕ, ◌+◌, ◌<◌, ◌≡◌, List, [], ◌∷◌, Bool, true, false, ◌||◌, arith, ap, sym, subst, refl, ◌∙◌}
 use Rattle.combine_base.specs.Stream.View.{View, Takes, advanced, extended, MayFollow}
 use Rattle.combine_base.specs.Stream.Advance.{advanced_twice, advanced_extended, decided_stays}
@@ -18,7 +18,7 @@ module _ {P T A V Mark : Type 0} (step : P → T → P) (rule : Rule A Mark) (hr
   pub turned_stop : (running : Reading P T A) (s : TurnsSoFar Mark c.Held) (v : View P T) (i : Outcome A) (l : Outcome (Unit {0})) (o : Outcome V) → running v i → rule.full s.mark ≡ false → rule.judge s.mark i ≡ StopsTurns l → shape o ≡ after 0 s.committed l → HoldsCollected c o s.held → TurnsOutcome step rule c turn running s v o
   turned_stop running s v i l o d nf j e q = record { blocks = []; last = l; held = s.held; divided = rw nf (i, d, j); joined = e ∙ ap (λ b. after 0 b l) (sym (or_false s.committed)); folded = refl; collected = q }
 
-  -- a place where no further turn runs
+  -- a place where no turn runs any more
   pub turned_full : (running : Reading P T A) (s : TurnsSoFar Mark c.Held) (v : View P T) (o : Outcome V) → rule.full s.mark ≡ true → shape o ≡ Accepted tt 0 s.committed → HoldsCollected c o s.held → TurnsOutcome step rule c turn running s v o
   turned_full running s v o f e q = record { blocks = []; last = Accepted tt 0 false; held = s.held; divided = rw f refl; joined = e ∙ ap (λ b. Accepted tt 0 b) (sym (or_false s.committed) ∙ sym (or_false (s.committed || false))); folded = refl; collected = q }
 

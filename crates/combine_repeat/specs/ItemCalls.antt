@@ -1,4 +1,4 @@
--- the contract of one run of an item's parser
+-- what a run of one item's parser promises
 use Rattle.std.specs.Prelude.{◌≡◌, ◌⊎◌, ◌||◌, Bool, true, false}
 use Rattle.combine_base.specs.Error.Errors.{Observers}
 use Rattle.combine_base.specs.Parser.Answer.{Answers, world}
@@ -43,11 +43,11 @@ module _ {B C H It : Type 0} (held : C → H) (more : H → B → H) where
     stored value committed (items.Stops answer) = unstored answer
 
 module _ {N Input It B C H U Checkpoint T R P E : Type 0} (p : parser.Ghosts N Input U B Checkpoint T R P E) (i : stream.Ghosts Input T R P E) (observers : Observers T R P E) (fresh : U → Type 0) (held : C → H) (more : H → B → H) (heapless : Type 0) where
-  -- need of more keeps the item's parser as it now is, with its state; every other result leaves a default state
+  -- need of more keeps the item's parser as it now is, with the state in which it stopped; every other answer leaves a state that begins
   abbrev pub keeps_item : Bool → RunningItem C It N U → N → U → IterateState C It N U → ParseResult B E → Type 0
   keeps_item is_open from parser stopped state answer = (NeedsMore observers.kind is_open answer × (state ≡ states.Running (record { before = from.before; parser = parser; state = stopped })) × p.valid stopped) ⊎ ((NeedsMore observers.kind is_open answer → ⊥) × begins_items state)
 
-  -- the next item follows if the parser was accepted and its value was collected; else this is the result
+  -- the next item's turn comes where the parser was accepted and its value was collected; else this is the answer
   abbrev pub item_did : RunningItem C It N U → ParseResult B E → Item C It E → Type 0
   item_did from (CommitOk b) result = stored held more observers.kind heapless from.before b true result
   item_did from (PeekOk b) result = stored held more observers.kind heapless from.before b false result

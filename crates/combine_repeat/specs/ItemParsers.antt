@@ -13,16 +13,16 @@ use Rattle.combine_repeat.specs.declared.iterate.items.RunningItem.{RunningItem}
 use Rattle.combine_repeat.specs.declared.iterate.items.IterateState.{IterateState}
 use Rattle.combine_repeat.specs.declared.iterate.items.IterateState.TheVariants as states
 
--- no item's parser was returned yet
+-- no item was asked for
 abbrev pub begins_items : {C It N U : Type 0} → IterateState C It N U → Type 0
 begins_items states.Start = Unit {0}
 begins_items (states.Running l) = ⊥
 
--- any two parsers that may be returned for one item have outcomes of one shape
+-- any two parsers that may be answered for one item have one outcome, but for the value
 pub record ItemAnswersOne {P T I N B : Type 0} (answers : I → N → Type 0) (means : N → Reading P T B) : Type 0 where
   pub one : (x : I) (n n' : N) → answers x n → answers x n' → (v : View P T) (o o' : Outcome B) → means n v o → means n' v o' → shape o ≡ shape o'
 
--- a state is valid if the running item's parser may be kept, its state is valid, and the iterator gives some items
+-- a state is valid where the running item's parser is one that may be kept, its state is valid, and the iterator gives some items
 module _ {C It I N U : Type 0} (kept : N → Type 0) (valid : U → Type 0) (at : It → List I → Type 0) where
   abbrev pub valid_running : RunningItem C It N U → Type 0
   valid_running l = kept l.parser × valid l.state × ((xs : List I) × at l.before.items xs)
@@ -36,20 +36,20 @@ module _ {C It I N U : Type 0} (kept : N → Type 0) (valid : U → Type 0) (at 
   items_start_valid (states.Running l) d = absurd d
 
 module _ {P T R E I N It B C H U : Type 0} (step : P → T → P) (errors : Observers T R P E) (answers : I → N → Type 0) (some : N → Type 0) (means : N → Meaning P T R E B U) (held : C → H) (none : H) (more : H → B → H) (at : It → List I → Type 0) (lists : List I → Type 0) (spared : Type 0) where
-  -- any parser that is returned for the item
+  -- any parser that is answered for the item
   abbrev pub answered_for_item : I → Reading P T B
   answered_for_item x v o = (n : N) × answers x n × (means n).whole v o
 
-  -- a collection with these contents, and nothing taken
+  -- a collection that holds so much, nothing taken
   abbrev pub collected : H → Reading P T C
   collected h v o = (c : C) × (held c ≡ h) × (o ≡ Accepted c 0 false)
 
-  -- The outcomes of these items, after these contents. Without items it is the collection; else, if the first one's parser is accepted, the outcome of the others after its value; else that parser's outcome.
+  -- What comes of these items, where so much is collected: where there are none, that collection; else, where the first one's parser is accepted, what comes of the others with its value collected, after it; else that parser's outcome.
   abbrev pub each_item : H → List I → Reading P T C
   each_item h [] = collected h
   each_item h (x ∷ xs) = sequel step last_value (answered_for_item x) (λ b. each_item (more h b) xs)
 
-  -- the same where the first one's parser has this reading
+  -- and where the first one's parser has this reading
   abbrev pub each_from : Reading P T B → H → List I → Reading P T C
   each_from r h xs = sequel step last_value r (λ b. each_item (more h b) xs)
 
@@ -61,7 +61,7 @@ module _ {P T R E I N It B C H U : Type 0} (step : P → T → P) (errors : Obse
   lost_of states.Start v = ⊥
   lost_of (states.Running l) v = (means l.parser).lost l.state v
 
-  -- the parsers of the items of a list, one after another; `some` holds of the parsers that any function of the type may return
+  -- the parsers of the items of a list, one after another; some are those that may be answered by any function of the type
   abbrev pub iterated : Meaning P T R E C (IterateState C It N U)
   iterated = record {
     whole = λ v o. (xs : List I) × lists xs × each_item none xs v o;
@@ -134,7 +134,7 @@ module _ {P T R E I N It B C H U : Type 0} (step : P → T → P) (errors : Obse
     pub iterated_is_meaning : IsMeaning begins_items (valid_item (KeptOf lawful means some) valid at) iterated
     iterated_is_meaning = record { whole = whole_is_reading; rest = rest_is_reading; start = starts; found = finds; reasons = reasoning }
 
-  -- the outcomes of the items, after any contents
+  -- what comes of the items, whatever is collected
   abbrev any_each : List I → Reading P T C
   any_each xs v o = (h : H) × each_item h xs v o
 

@@ -1,4 +1,4 @@
--- the result of one turn of an iterator: it is a block, or the turns end
+-- what one turn of a call does: it is a block, or the turns end
 use Rattle.std.specs.Prelude.{◌<◌, ◌≡◌, Bool, true, false, not}
 use Rattle.combine_base.specs.Error.Errors.{Observers}
 use Rattle.combine_base.specs.Parser.Meaning.{Meaning, MeansSame}
@@ -19,7 +19,7 @@ use Rattle.combine_base.specs.declared.error.result.ParseResult.TheVariants.{Com
 use Rattle.combine_repeat.specs.declared.iter.IterStep.{IterStep}
 use Rattle.combine_repeat.specs.declared.iter.IterStep.TheVariants.{Gives, Over, Fails}
 
--- The place of a turn: none is required, and one that resumes may have taken its tokens from an earlier piece.
+-- The place of a turn: none is asked for, and one that resumes may have taken its tokens from an earlier piece.
 abbrev pub iter_turn_place : Bool → TurnIndex
 iter_turn_place first = record { number = 0; took_before = not first }
 
@@ -50,14 +50,14 @@ module _ {P T R A S E : Type 0} (w : World P T S E) (m : Meaning P T R E A S) (r
   pub record IterTurnDid (result : IterStep A E) : Type 0 where
     pub is : iter_turn_did result
 
--- The error of a refusal is the error of a turn of `many` that stops the turns there: its parser's, or that it takes nothing.
+-- The error of a refusal is that of a turn of `many` that stops the turns there: its parser's, or that it takes nothing.
 abbrev pub iter_turn_refuses : {P T R A S E : Type 0} → (P → T → P) → Observers T R P E → Meaning P T R E A S → Bool → S → View P T → View P T → IterStep A E → Type 0
 iter_turn_refuses step errors m first from old new (Gives a) = Unit {0}
 iter_turn_refuses step errors m first from old new Over = Unit {0}
 iter_turn_refuses step errors m first from old new (Fails e) = IsRefusal new.is_open (errors.kind e) → RefusesHere step errors Unbounded no_value_ends (started m first from) (iter_turn_place first) old new true e
 
 module _ {Self Input Output State Checkpoint Token Range Position Error : Type 0} (p : parser.Ghosts Self Input State Output Checkpoint Token Range Position Error) where
-  -- the contract of one turn, by the stream before and after it
+  -- what one turn promises, of what was before and after it
   pub record TurnCalled (i : stream.Ghosts Input Token Range Position Error) (observers : Observers Token Range Position Error) (fresh : State → Type 0) (old new : Self) (input left : Input) (first : Bool) (from state : State) (result : IterStep Output Error) : Type 0 where
     pub lawful : p.lawful new
     pub valid : p.valid state

@@ -1,4 +1,4 @@
--- lists whose items are given one after another, and functions that return a parser for each
+-- lists whose items are given one after another, and functions that are asked for a parser of each
 use Rattle.std.specs.Prelude.{◌≡◌, List, [], ◌∷◌, Option, Some, None, refl}
 use Rattle.std.specs.Iterator.{Count, IsFinite}
 use Rattle.std.specs.declared.clone.Clone as clone
@@ -24,12 +24,12 @@ abbrev pub item_asker : {C J F : Type 0} → Iterate C J F → F
 item_asker p = p.asked
 
 module _ {It I : Type 0} (can_next : It → Type 0) (remaining : It → Count) (steps : It → Option I → It → Type 0) where
-  -- the iterator may be called, and ends
+  -- it may be called, and ends
   pub record Callable (it : It) : Type 0 where
     pub can : can_next it
     pub finite : IsFinite (remaining it)
 
-  -- a call gives this, and then `then` holds of the iterator; there is such a call
+  -- a call gives this, and then that holds of the iterator; there is such a call
   pub record GivesThen (it : It) (r : Option I) (then : It → Type 0) : Type 0 where
     pub callable : Callable it
     pub each : (s : Option I) (next : It) → steps it s next → (s ≡ r) × then next
@@ -48,7 +48,7 @@ module _ {It I : Type 0} (can_next : It → Type 0) (remaining : It → Count) (
   pub record ListsItems {J : Type 0} (clones : J → J → Type 0) (makes : J → It → Type 0) (list : J) (xs : List I) : Type 0 where
     pub each : (clone : J) (it : It) → clones list clone → makes clone it → GivesItems it xs
 
--- the same by the ghosts of the iterator and of the clone
+-- the same by what iterates and copies
 abbrev pub iterator_gives : {It I : Type 0} → iterator.Ghosts It I → It → List I → Type 0
 iterator_gives n = GivesItems n.can_next n.remaining n.next_gives
 
@@ -56,12 +56,12 @@ module _ {It I J : Type 0} (copies : clone.Ghosts J) (iterates : into_iterator.G
   abbrev pub lists : List I → Type 0
   lists = ListsItems n.can_next n.remaining n.next_gives copies.is_clone iterates.into_iter_gives list
 
-  -- a clone of the list has an iterator, so the list has one list of items
+  -- a clone of it has an iterator, so it has one list of items
   abbrev pub HasIterator : Type 0
   HasIterator = (clone : J) × (it : It) × copies.is_clone list clone × iterates.into_iter_gives clone it
 
 module _ {I N Input : Type 0} (returns : Lent I → Input → N → Input → Type 0) where
-  -- the function may return this parser for the item
+  -- the function may answer this parser for the item
   pub record AskedFor (x : I) (n : N) : Type 0 where
     pub input : Input
     pub left : Input
@@ -75,7 +75,7 @@ module _ {I N Input : Type 0} (returns : Lent I → Input → N → Input → Ty
 abbrev pub MayAskAlways : {I Input : Type 0} → (Lent I → Input → Type 0) → Type 0
 MayAskAlways {I = I} {Input = Input} callable = (x : I) (i : Input) → callable (record { 0 = x }) i
 
--- returned by a function that is fit, and whose parsers are all lawful
+-- asked for by a function that is fit, and whose parsers are all lawful
 pub record AskedBySome {F I N : Type 0} (fit : F → Type 0) (answers : F → I → N → Type 0) (lawful : N → Type 0) (n : N) : Type 0 where
   pub asked : F
   pub is_fit : fit asked
@@ -83,7 +83,7 @@ pub record AskedBySome {F I N : Type 0} (fit : F → Type 0) (answers : F → I 
   pub item : I
   pub answered : answers asked item n
 
--- returned by a function of this type that may always be called and leaves the stream in place
+-- asked for by a function of this type that may always be called and leaves the stream in place
 abbrev pub any_of : {F I N Input T R P E : Type 0} → stream.Ghosts Input T R P E → function.Ghosts F (Lent I) Input N → (N → Type 0) → N → Type 0
 any_of i g lawful = AskedBySome (λ f. MayAskAlways (g.callable f) × AskedLeavesStream (g.returns f) i.view i.marks i.failures) (λ f. AskedFor (g.returns f)) lawful
 

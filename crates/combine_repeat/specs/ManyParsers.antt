@@ -1,4 +1,4 @@
--- the parsers that the constructors return
+-- the parsers that the constructors build
 use Rattle.std.specs.declared.alloc.Global.{Global}
 use Rattle.combine_repeat.specs.Repeat.RepeatParsers.{each_of, repeat_of}
 use Rattle.combine_repeat.specs.declared.each.Dropped.{Dropped}

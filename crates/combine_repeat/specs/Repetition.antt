@@ -1,4 +1,4 @@
--- repetitions of one parser: turns until one is refused peeked; and how repetitions relate
+-- repetitions of one parser: turns until one is refused peeked; and repetitions beside one another
 use Rattle.std.specs.Prelude.{None, ◌↔◌}
 use Rattle.combine_base.specs.Error.Errors.{Observers}
 use Rattle.combine_base.specs.Parser.Meaning.{Meaning}
@@ -12,11 +12,11 @@ use Rattle.combine_repeat.specs.Repeat.Counts.{DropsValues}
 use Rattle.combine_repeat.specs.Repeat.OneThenTurns.{one_then_turns}
 
 module _ {P T R E A V S : Type 0} (step : P → T → P) (errors : Observers T R P E) (c : Collecting A V) where
-  -- zero or more turns
+  -- turns, of which there need be none
   abbrev pub many : Meaning P T R E A S → Meaning P T R E V (TurnsState V S)
   many = repeated step errors Unbounded c
 
-  -- turns, of which the first is required
+  -- turns, of which the first is asked for
   abbrev pub many1 : Meaning P T R E A S → Meaning P T R E V (TurnsState V S)
   many1 = repeated step errors (OwnFirst 1 None) c
 

@@ -1,22 +1,22 @@
-//! Bounds on the number of turns: a type for each kind, so that a repetition compiles no code for bounds that it lacks.
+//! How many turns there are: a type for each kind of bounds, so that what some turns don't need isn't compiled with them.
 ghost use Rattle.std.specs.Prelude.{◌≡◌, ◌-◌, ℕ, false, nat_lt, not};
 ghost use Rattle.combine_base.specs.Stream.View.{View, Takes};
 ghost use Rattle.combine_repeat.specs.Turns.Bounds.{counted_bounds, counted_to, cut_at, first_lack, is_first_or_takes_token, own_first_bounds, takes_token};
 
 use combine_base::stream::{Stream, has_taken};
 
-/// Bounds on the number of turns, for contracts: the value of a type of `TurnBounds`.
+/// How many turns there are, for contracts: a type of `TurnBounds` says which are meant.
 #[derive(Clone, Copy)]
 pub enum Bounds {
     /// Any number; each takes a token.
     Unbounded,
-    /// The first turn is a part of its own: it may take nothing, and its refusal is the result unless no turn is required. Each later one takes a token.
+    /// The first is a part of its own: it may take nothing, and its refusal is the answer unless there need be none. Each later one takes a token.
     OwnFirst { min: usize, max: Option<usize> },
-    /// At least `min` and at most `max`; they may take nothing.
+    /// A number; they may take nothing.
     Counted { min: usize, max: usize },
 }
 
-/// The running turn: its index, counted up to the limit of the bounds, and whether it took a token in an earlier piece.
+/// The running turn: its index, counted up to the limit of the bounds, and whether it already took a token in an earlier piece.
 #[derive(Clone, Copy)]
 pub struct TurnIndex {
     pub(crate) number: usize,
@@ -24,7 +24,7 @@ pub struct TurnIndex {
 }
 
 impl TurnIndex {
-    /// Returns the index of the first turn.
+    /// Returns the place of the first turn.
     #[inline(always)]
     pub fn first() -> TurnIndex
         ensures { result ≡ record { number = 0; took_before = false } }
@@ -35,7 +35,7 @@ impl TurnIndex {
         }
     }
 
-    /// Returns whether `max` turns precede it.
+    /// Returns whether `max` turns were before it.
     #[inline(always)]
     pub(crate) fn reaches(self, max: usize) -> bool
         ensures { result ≡ not (nat_lt self.number max) }
@@ -43,7 +43,7 @@ impl TurnIndex {
         !(self.number < max)
     }
 
-    /// Returns the index of the next turn, counted up to `count_bound`.
+    /// Returns the place of the next turn.
     #[inline(always)]
     pub(crate) fn next(self, count_bound: usize) -> TurnIndex
         ensures { result ≡ record { number = counted_to count_bound self.number; took_before = false } }
@@ -72,44 +72,44 @@ impl TurnIndex {
     }
 }
 
-/// The turns that are missing when one is refused peeked.
+/// What is missing where a turn is refused peeked.
 pub enum Lack {
     /// Nothing: there are enough turns.
     Nothing,
     /// The first turn, which is a part of its own: its refusal is the result.
     First,
-    /// This number of turns.
+    /// So many turns.
     Turns(usize),
 }
 
-/// Bounds on the number of turns.
+/// How many turns there are.
 pub trait TurnBounds: Copy {
     ghost use Rattle.std.specs.Prelude.{◌≡◌, ◌≤◌, ℕ, false, Option};
     ghost use Rattle.combine_base.specs.Stream.View.{View, Takes};
     ghost use Rattle.combine_repeat.specs.Turns.Bounds.{full_at, is_unbounded, lack_at, next_at};
     ghost use Rattle.combine_repeat.specs.declared.bounds.Bounds.{Bounds};
 
-    /// The bounds.
+    /// What they are.
     ghost bounds: { Self → Bounds };
 
-    /// Returns whether any number of turns is allowed.
+    /// Returns whether there may be any number of turns.
     fn is_unbounded(self) -> bool
         ensures { result ≡ is_unbounded (bounds self) };
 
-    /// Returns the number of values to reserve room for: at most 1,024, and 0 in a call that resumes.
+    /// Returns for how many values a collection asks for room: at most 1,024, and for none in a call that resumes.
     fn room(self, first: bool) -> usize
         ensures few { result ≤ 1024 }
         ensures resumes { first ≡ false → result ≡ 0 };
 
-    /// Returns whether the most turns that are allowed have run.
+    /// Returns whether there are as many turns as there may be.
     fn is_full(self, index: TurnIndex) -> bool
         ensures { result ≡ full_at (bounds self) index };
 
-    /// Returns the turns that are missing if this one is refused peeked.
+    /// Returns what is missing where this turn is refused peeked.
     fn lacks(self, index: TurnIndex) -> Lack
         ensures { result ≡ lack_at (bounds self) index };
 
-    /// Returns the index of the turn after an accepted one, or `None` if that one has to take a token and took none. `since` is where its part in this piece began, `committed` how it was accepted.
+    /// Returns the place of the turn after an accepted one, or `None` where that has to take a token and took none: `since` is where its part in this piece began, `committed` how it was accepted.
     fn next<Input: Stream>(
         self,
         index: TurnIndex,
@@ -158,14 +158,13 @@ impl TurnBounds for ZeroOrMore {
         input: &Input,
     ) -> Option<TurnIndex> {
         if takes_token(index, committed, since, input) {
-            // The number of turns doesn't matter.
             return Some(TurnIndex::first());
         }
         None
     }
 }
 
-/// Returns whether a turn is committed and took a token, in this piece or an earlier one.
+/// Returns whether a turn is committed and took a token, now or before a cut.
 #[inline(always)]
 fn takes_token<Input: Stream>(
     index: TurnIndex,
@@ -178,7 +177,7 @@ fn takes_token<Input: Stream>(
     committed && has_taken(index.took_before, since, input)
 }
 
-/// Returns the same as `takes_token`, and true for a first turn, which is a part of its own and may take nothing.
+/// Returns the same as `takes_token`, but for a first turn that is a part of its own and may take nothing.
 #[inline(always)]
 fn is_first_or_takes_token<Input: Stream>(
     index: TurnIndex,
@@ -194,7 +193,7 @@ fn is_first_or_takes_token<Input: Stream>(
     takes_token(index, committed, since, input)
 }
 
-/// Returns the turns that are missing of `min`, the first of which is a part of its own.
+/// Returns what is missing of so many turns, of which the first is a part of its own.
 #[inline(always)]
 fn first_lacks(index: TurnIndex, min: usize) -> Lack
     ensures { result ≡ first_lack min index }
@@ -208,9 +207,9 @@ fn first_lacks(index: TurnIndex, min: usize) -> Lack
     Lack::First
 }
 
-/// At least `MIN` turns, the first of which is a part of its own.
+/// At least `MIN` turns, of which the first is a part of its own.
 ///
-/// The first may take nothing, and its refusal is the result unless no turn is required. Each later one takes a token.
+/// That one may take nothing, and its refusal is the result unless there need be none. Each later one takes a token.
 #[derive(Clone, Copy)]
 pub struct FirstThenMore<const MIN: usize>;
 
@@ -249,7 +248,6 @@ impl<const MIN: usize> TurnBounds for FirstThenMore<MIN> {
         input: &Input,
     ) -> Option<TurnIndex> {
         if is_first_or_takes_token(index, committed, since, input) {
-            // After the first turn and `MIN` the number doesn't matter.
             return Some(index.next(if MIN < 1 { 1 } else { MIN }));
         }
         None
@@ -259,9 +257,9 @@ impl<const MIN: usize> TurnBounds for FirstThenMore<MIN> {
 /// At least `min` and at most `max` turns, otherwise as `FirstThenMore`.
 #[derive(Clone, Copy)]
 pub struct FirstThenUpTo {
-    /// The least number.
+    /// How many there are at least.
     pub min: usize,
-    /// The greatest number.
+    /// How many there are at most.
     pub max: usize,
 }
 
@@ -306,9 +304,9 @@ impl TurnBounds for FirstThenUpTo {
 /// At least `min` and at most `max` turns, which may take nothing.
 #[derive(Clone, Copy)]
 pub struct MinToMax {
-    /// The least number.
+    /// How many there are at least.
     pub min: usize,
-    /// The greatest number.
+    /// How many there are at most.
     pub max: usize,
 }
 
@@ -320,7 +318,7 @@ impl TurnBounds for MinToMax {
         false
     }
 
-    /// Returns `min`, but at most 1,024, since `min` may be a number that was read from the input.
+    /// Returns as many as there must be, and at most 1,024, since how many there must be may be a number that was read.
     #[inline(always)]
     fn room(self, first: bool) -> usize {
         if first {

@@ -1,14 +1,14 @@
-//! Counted repetitions: a parser runs turn after turn, until it is refused peeked or the greatest number of turns has run. A turn may take nothing.
+//! Counted repetitions: a parser runs turn after turn, until it is refused peeked or there are as many turns as there may be. The turns may take nothing.
 //!
-//! The values are collected in any `F: Append<P::Output>`, for which the constructors take an allocator first; combine takes `F: Extend + Default`, and no allocator. The skipping forms drop the values.
+//! The values are collected in any `F: Append<P::Output>`, for which the constructors take an allocator first; the crate takes `F: Extend + Default`, and no allocator. The skipping forms drop the values.
 //!
-//! A collection that can't grow is the committed fault `Memory`, and a stream that can't be put back the committed fault `Reset`, each at the position where the turn began. The faults of the parser are passed on.
+//! A collection that can't grow gives the committed fault `Memory`, and a stream that can't be put back the committed fault `Reset`, each at the position where the turn began. The faults of the parser are passed on.
 //!
-//! On need of more the state keeps the collection, the number of turns, whether one committed, which combine forgets, and the running turn.
+//! On need of more the state keeps what is collected, how many turns there were, whether one committed, which the crate forgets, and the turn that runs.
 //!
-//! `add_error` adds the items of the parser; each repetition counts as one parser.
+//! What is added to an error is as for the parser; each counts as one parser.
 //!
-//! The error of a refusal is exact: the error of a turn refused committed, which is one with which the parser refuses, or the number of missing turns, at the position where the last turn was begun or resumed.
+//! Which error a refusal has is exact: that of a turn that is refused committed, or one that says how many turns are missing, at the place where the last turn was begun or resumed. A turn's own error is one that the parser refuses with.
 ghost use Rattle.std.specs.Prelude.{◌≡◌, ◌≤◌, ◌&&◌, if◌then◌else◌};
 ghost use Rattle.combine_repeat.specs.Repeat.RepeatParsers.{count_min_max_of, skip_count_min_max_of, repeat_bounds, repeat_of, repeated_by};
 ghost use Rattle.combine_repeat.specs.Turns.Bounds.{fresh_turns_valid, gathered, is_unbounded, running_turn};
@@ -27,9 +27,9 @@ use combine_base::stream::{Kind, Positioned, Stream, StreamOnce};
 use std::alloc::Global;
 use types::{Count, CountMinMax, SkipCount, SkipCountMinMax};
 
-/// Turns of a parser, whose values `G` gathers; `B` bounds their number.
+/// Turns of a parser, whose values `G` gathers. `B` bounds their number.
 ///
-/// The types of all repetitions of one parser are aliases of it.
+/// The types of the repetitions of one parser are its aliases.
 #[derive(Clone, Copy, Drop)]
 pub struct Repeat<G, P, B> {
     gather: G,
@@ -51,7 +51,7 @@ impl<G, P, B> Repeat<G, P, B> {
     }
 }
 
-/// Returns the fault `Memory`, before anything was read, and leaves a default state.
+/// Returns that no memory was found before anything was read, and leaves a default state.
 #[cold]
 fn without_room<O, Input: Stream, S: Default + Drop>(
     input: &Input,
@@ -112,13 +112,13 @@ impl<
         )
     }
 
-    /// Adds the items of the parser.
+    /// Adds what the parser of a turn adds.
     #[inline]
     fn add_error(&mut self, error: &mut Tracked<Input::Error>) {
         self.turn.0.add_error(error);
     }
 
-    /// Counts as the parser does if any number of turns is allowed and their values are kept, else as one parser.
+    /// Counts as the parser of a turn does; where the number of turns is bounded, or their values are dropped, it counts as one parser.
     #[inline]
     fn parser_count(&self) -> ErrorOffset {
         if self.bounds.is_unbounded() && self.gather.keeps() {
@@ -128,25 +128,25 @@ impl<
     }
 }
 
-/// Runs `parser` at least `min` and at most `max` times, and collects its values in order.
+/// Runs at least `min` and at most `max` turns of `parser`, and collects their values in order.
 ///
-/// `min` has to be at most `max`. A turn may take nothing. After `max` turns the result is accepted, and no further turn runs. A peeked refusal ends the turns; after at least `min` it is put back, and the result is accepted. An acceptance is committed exactly if a turn was.
+/// `min` has to be at most `max`. A turn may take nothing. After `max` turns it is accepted, and no further turn runs. A peeked refusal ends the turns; after at least `min` it is put back, and the result is accepted. An acceptance is committed exactly if a turn was.
 ///
 /// # Errors
 ///
-/// - If a turn is refused peeked after fewer than `min` turns, the result is refused with the message `expected N more elements`, at the position where that turn began. It is committed exactly if a turn was. Its kind is the kind of the turn's refusal: `End` where the input ended, and else `Refused`.
+/// - A peeked refusal after fewer than `min` turns refuses with the message `expected N more elements`, at the position where that turn began. It is committed exactly if a turn was. Its kind is that of the turn's refusal: `End` where the input ended, and else `Refused`.
 /// - A committed refusal of a turn is the result.
 /// - A collection that can't grow is the committed fault `Memory`, and a stream that can't be put back `Reset`.
 ///
 /// # Partial input
 ///
-/// On need of more the state keeps the collection, the number of turns, whether one committed, and the running turn.
+/// On need of more the state keeps what is collected, how many turns there were, whether one committed, and the turn that runs.
 ///
 /// # Differences from combine
 ///
-/// - `min` at most `max` is a precondition, which combine asserts.
-/// - Over a cut combine forgets that a turn committed, and a call that begins afresh may continue an earlier call's count.
-/// - If turns are missing, combine adds their number to the error of the turn that stopped.
+/// - The caller shows that `min` is at most `max`, which the crate asserts.
+/// - The crate forgets over a cut that a turn committed, and a call that begins afresh may go on counting from an earlier one.
+/// - Where turns are missing the crate says so beside what the turn that stopped says.
 ///
 /// # Examples
 ///
@@ -169,7 +169,7 @@ pub fn count_min_max<F, P>(alloc: Global, min: usize, max: usize, parser: P) -> 
 
 /// Runs turns as `count_min_max` does, and drops the values.
 ///
-/// `min` has to be at most `max`. It allocates nothing of its own but an error's message.
+/// `min` has to be at most `max`. It takes no memory of its own, but for that of an error's message.
 #[inline]
 pub fn skip_count_min_max<P>(min: usize, max: usize, parser: P) -> SkipCountMinMax<P>
     requires { min ≤ max }
@@ -179,7 +179,7 @@ pub fn skip_count_min_max<P>(min: usize, max: usize, parser: P) -> SkipCountMinM
     Repeat::new(Dropped, parser, bounds)
 }
 
-/// Runs `parser` at most `count` times, and collects its values, as `count_min_max` with `min` 0 does.
+/// Runs at most `count` turns, and collects their values, as `count_min_max` with `min` 0 does.
 ///
 /// # Examples
 ///
@@ -199,7 +199,7 @@ pub fn count<F, P>(alloc: Global, count: usize, parser: P) -> Count<F, P>
 
 /// Runs turns as `count` does, and drops the values.
 ///
-/// It allocates nothing of its own but an error's message.
+/// It takes no memory of its own, but for that of an error's message.
 #[inline]
 pub fn skip_count<P>(count: usize, parser: P) -> SkipCount<P>
     ensures { result ≡ skip_count_min_max_of 0 count parser }

@@ -1,4 +1,4 @@
-//! The same parser in each turn, with its values appended to a collection or dropped.
+//! The same parser in each turn, and each value appended or dropped.
 ghost use Rattle.std.specs.Prelude.{◌≡◌, false, true};
 ghost use Rattle.combine_repeat.specs.Turns.SoundValues.{any_sound};
 ghost use Rattle.combine_repeat.specs.Turns.Turn.{from_start, gives_any, plain_is_turn, plain_once};
@@ -64,7 +64,7 @@ impl<Input: Stream, P: Parser<Input>> TurnParser<Input> for SameParser<P> {
     ghost gives_only = { λ p l. gives_any };
 }
 
-/// Appends each value to an `F`; the allocator makes the empty one.
+/// Each value is appended to an `F`, for which an allocator is kept.
 #[derive(Drop)]
 #[derive_where(Clone, Copy)]
 pub struct Each<F> {
@@ -73,7 +73,7 @@ pub struct Each<F> {
 }
 
 impl<F> Each<F> {
-    /// Returns a gatherer whose collections are allocated by `alloc`.
+    /// Returns how values are appended to what that allocator finds memory for.
     #[inline(always)]
     pub fn new(alloc: Global) -> Each<F>
         ensures { result ≡ each_of alloc }
@@ -135,7 +135,7 @@ impl<A, F: Append<A>> Collect<A> for Each<F> {
     ghost holds_any = { λ k h. tt };
 }
 
-/// Drops each value.
+/// No value is kept.
 #[derive(Clone, Copy, Drop)]
 pub struct Dropped;
 

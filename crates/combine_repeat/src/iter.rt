@@ -1,4 +1,4 @@
-//! `Iter`, an iterator over the values of a parser.
+//! The values of a parser, one after another.
 ghost use Rattle.std.specs.Prelude.{◌≡◌, ℕ};
 ghost use Rattle.combine_base.specs.Error.Results.{standard};
 ghost use Rattle.combine_base.specs.Stream.View.{View, Takes};
@@ -35,7 +35,7 @@ impl<E> IterStage<E> {
         }
     }
 
-    /// Returns the result of the turns: `value`, committed if a turn gave a value, or the error at which they failed.
+    /// Returns the turns as a result with that value, of which one gave a value or none.
     fn answer<V: Drop>(self, given: bool, value: V) -> ParseResult<V, E>
         ensures { result ≡ answer_of self given value }
     {
@@ -47,38 +47,38 @@ impl<E> IterStage<E> {
     }
 }
 
-/// An iterator over the values of a parser, which runs turn after turn on a borrowed stream, with a borrowed state.
+/// The values of a parser that is run turn after turn on a stream that is lent, with a state that is lent.
 ///
-/// It yields each turn's value until a turn is refused, needs more, meets a fault or takes nothing. After that it yields `None`.
+/// It gives each turn's value, until a turn is refused, needs more, meets a fault or takes nothing. From then on it gives `None`.
 ///
 /// # Errors
 ///
-/// A peeked refusal is put back. A turn that takes nothing is refused committed, with the message `repetition takes nothing`. The first turn of a call that resumes need only be committed, since it may have taken its tokens from an earlier piece.
+/// A peeked refusal is put back. A turn that takes nothing is refused committed, `repetition takes nothing`. Of the first turn of a call that resumes nothing is asked but that it is committed, since it may have taken its tokens from an earlier piece.
 ///
 /// # Partial input
 ///
-/// On need of more the borrowed state keeps the running turn, and the tokens of the values that were yielded are taken. An iterator over that state resumes there.
+/// On need of more the state that was lent keeps the turn that runs, and the tokens of the values that were given are taken. An iterator that resumes from that state goes on.
 ///
 /// # Differences from combine
 ///
-/// In combine the iterator has a state of its own, `next` parses again after the end, and a parser that takes nothing yields values without end.
+/// In the crate the state is the iterator's own, `next` parses again after the end, and a parser that takes nothing gives values without end.
 #[derive(Drop)]
 pub struct Iter<'a, Input: Stream, P: Parser<Input>, M> {
     parser: P,
     mode: M,
     input: &'a mut Input,
     state: &'a mut P::PartialState,
-    /// Set if a value was yielded; each is of a committed turn.
+    /// Set if a value was given; each is of a committed turn.
     given: bool,
     stage: IterStage<Input::Error>,
 }
 
 impl<'a, Input: Stream, P: Parser<Input>, M: ParseMode> Iter<'a, Input, P, M> {
-    /// Makes an iterator whose first turn begins afresh or resumes from the state, as the mode requires.
+    /// Makes an iterator whose first turn begins afresh or goes on from the state, as the mode says.
     ///
-    /// It allocates nothing.
+    /// It takes no memory.
     ///
-    /// The parser has to be lawful, and the state valid for it.
+    /// The parser is lawful, and the state one that it keeps.
     pub fn new(
         parser: P,
         mode: M,
@@ -101,13 +101,13 @@ impl<'a, Input: Stream, P: Parser<Input>, M: ParseMode> Iter<'a, Input, P, M> {
         }
     }
 
-    /// Returns the value as the result of the turns, if they go on or ended at a peeked refusal.
+    /// Returns the value as the turns would accept it, if they go on or ended at a peeked refusal.
     ///
     /// It is committed exactly if a value was given.
     ///
     /// # Errors
     ///
-    /// The error of the turn at which they ended, committed: the parser's, or `repetition takes nothing` at the position where that turn began.
+    /// The error of the turn at which they ended, committed: its parser's, or `repetition takes nothing` at the position where it began.
     pub fn into_result<O: Drop>(self, value: O) -> StdParseResult<O, Input>
     where
         P: Drop,
@@ -158,9 +158,9 @@ impl<'a, Input: Stream, P: Parser<Input> + Drop, M: ParseMode> Iterator for Iter
     }
 }
 
-/// The outcome of a turn.
+/// What a turn did.
 enum IterStep<A, E> {
-    /// It is a block with this value.
+    /// It is a block with that value.
     Gives(A),
     /// It was refused peeked, and put back.
     Over,
@@ -168,7 +168,7 @@ enum IterStep<A, E> {
     Fails(E),
 }
 
-/// Runs one turn, and puts a peeked refusal back.
+/// Runs one turn.
 #[inline(always)]
 fn iter_step<Input: Stream, P: Parser<Input>, M: ParseMode>(
     parser: &mut P,
@@ -199,7 +199,7 @@ fn iter_step<Input: Stream, P: Parser<Input>, M: ParseMode>(
     IterStep::Gives(value)
 }
 
-/// Returns whether an accepted turn is a block: it is committed, and takes a token or resumes.
+/// Returns whether an accepted turn counts, which has to take a token, unless it resumes.
 ///
 /// `since` is where its part in this call began, `committed` how it was accepted.
 #[inline(always)]

@@ -1,4 +1,4 @@
-//! `iterate`, which runs a parser for each item of a list.
+//! A parser for each item of a list.
 ghost use Rattle.std.specs.Prelude.{◌≡◌};
 ghost use Rattle.combine_repeat.specs.ListedItems.{iterate_of};
 
@@ -9,24 +9,24 @@ use std::alloc::Global;
 use std::marker::PhantomData;
 use types::Iterate;
 
-/// Runs, for each item of a list in order, the parser that `f` returns for it, and collects the values.
+/// Runs for each item of a list, in order, the parser that `f` returns for it, and collects the values in order.
 ///
 /// `f: Fn(&J::Item, &mut Input) -> N, J: Clone + IntoIterator, N: Parser<Input>`, or a `MutFunction`.
 ///
-/// `f` has to leave the stream in place, and every parser that it may return has to be lawful. It is called for each item when its turn comes. The items are those of an iterator of a clone of the list. The result is accepted without commitment if there are no items, or if no item's parser committed.
+/// `f` has to leave the stream in place, and every parser that it may return has to be lawful. It is called for each item where its turn comes. An iterator of a clone of the list gives the items. The result is accepted without commitment if there are no items, or if no item's parser committed.
 ///
 /// # Errors
 ///
-/// - A refusal of an item's parser is the result. A peeked one after the first item is put back to where that parser began, and its error has the unexpected token and the items that the parser expects; it is committed if an earlier item was.
-/// - If the list can't be cloned for lack of memory, the result is the fault `Memory`.
+/// - A refusal of an item's parser is the result. A peeked one after the first item is put back to where that parser began, and says what stands there and what that parser expects; it is committed if an earlier item was.
+/// - A clone of the list that finds no memory is the fault `Memory`.
 ///
 /// # Partial input
 ///
-/// On need of more the state keeps the parser that `f` returned for the running item, the values so far and the remaining items.
+/// On need of more the state keeps the parser that `f` returned for the running item, the values so far and the items that are left.
 ///
 /// # Differences from combine
 ///
-/// In combine `f` is an `FnMut`, which is called again for the running item on resumption.
+/// In the crate `f` is an `FnMut`, which is asked again for the running item on resumption.
 ///
 /// # Examples
 ///

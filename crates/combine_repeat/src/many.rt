@@ -1,16 +1,16 @@
 //! Repetitions: a parser runs turn after turn, until it is refused peeked.
 //!
-//! The values are collected in any `F: Append<P::Output>`, for which the constructors take an allocator first; combine takes `F: Extend + Default`, and no allocator. The skipping forms drop the values.
+//! The values are collected in any `F: Append<P::Output>`, for which the constructors take an allocator first; the crate takes `F: Extend + Default`, and no allocator. The skipping forms drop the values.
 //!
-//! A turn that takes nothing is refused, committed, with the message `repetition takes nothing`, at the position where it began; in combine such a parser may loop for ever. A turn that took its tokens in an earlier piece counts as one that takes them.
+//! A turn that takes nothing is refused, committed, with the message `repetition takes nothing`, at the position where it began; in the crate such a parser may hang. A turn that took its tokens in an earlier piece counts as one that takes them.
 //!
-//! A collection that can't grow is the committed fault `Memory`, and a stream that can't be put back the committed fault `Reset`, each at the position where the turn began. The faults of the parser are passed on.
+//! A collection that can't grow gives the committed fault `Memory`, and a stream that can't be put back the committed fault `Reset`, each at the position where the turn began. The faults of the parser are passed on.
 //!
-//! On need of more the state keeps the collection, whether a turn committed, which combine forgets, and the running turn.
+//! On need of more the state keeps what is collected, whether a turn committed, which the crate forgets, and the turn that runs.
 //!
-//! `add_error` adds the items of the parser. A repetition counts as its parser does, a skipping form as one parser.
+//! What is added to an error, and how many parsers are counted, is as for the parser, but the skipping forms count as 1.
 //!
-//! The error of a refusal is exact: the error of a turn refused committed, the unchanged error of a required first turn, or the message of a turn that takes nothing, at the position where it was begun or resumed. A turn's own error is one with which the parser refuses.
+//! Which error a refusal has is exact: that of a turn that is refused committed, that of a first turn that is asked for, as it is, or the message of a turn that takes nothing, at the place where it was begun or resumed. A turn's own error is one that the parser refuses with.
 ghost use Rattle.std.specs.Prelude.{◌≡◌};
 ghost use Rattle.combine_repeat.specs.ManyParsers.{many_of, many1_of, skip_many_of, skip_many1_of};
 
@@ -25,7 +25,7 @@ pub use combine_base::repeat::{Append, Sink};
 use std::alloc::Global;
 use types::{Many, Many1, SkipMany, SkipMany1};
 
-/// Runs `parser` until it is refused peeked, and collects its values in order.
+/// Runs turns of `parser` until it is refused peeked, and collects their values in order.
 ///
 /// That refusal ends the turns: the stream is put back to where that turn began, and the result is accepted, committed exactly if there was a turn before.
 ///
@@ -37,13 +37,13 @@ use types::{Many, Many1, SkipMany, SkipMany1};
 ///
 /// # Partial input
 ///
-/// On need of more the state keeps the collection, whether a turn committed, and the running turn.
+/// On need of more the state keeps what is collected, whether a turn committed, and the turn that runs.
 ///
 /// # Differences from combine
 ///
-/// - The values are collected in any `Append`, for which an allocator comes first. combine takes `Extend + Default`.
-/// - If a turn takes nothing, combine loops for ever.
-/// - Over a cut combine forgets that a turn committed.
+/// - The values are collected in any `Append`, for which an allocator comes first. The crate takes `Extend + Default`.
+/// - If a turn takes nothing the crate goes round for ever.
+/// - Over a cut the crate forgets that a turn committed.
 ///
 /// # Examples
 ///
@@ -61,21 +61,21 @@ pub fn many<F, P>(alloc: Global, parser: P) -> Many<F, P>
     Repeat::new(Each::new(alloc), parser, ZeroOrMore)
 }
 
-/// Runs `parser` once, and then until it is refused peeked, and collects all values in order.
+/// Runs `parser` once, and then turns of it until it is refused peeked, and collects all values in order.
 ///
-/// The first turn counts even if it takes nothing. The acceptance is committed exactly if a turn was.
+/// The first turn counts also where it takes nothing. The acceptance is committed exactly if a turn was.
 ///
 /// # Errors
 ///
-/// The refusal of the first turn, committed or peeked, is the result. The errors of later turns are those of `many`.
+/// The refusal of the first turn, committed or peeked, is the result. From then on they are those of `many`.
 ///
 /// # Partial input
 ///
-/// On need of more the state keeps the collection, whether a turn committed, and the running turn.
+/// On need of more the state keeps what is collected, whether a turn committed, and the turn that runs.
 ///
 /// # Differences from combine
 ///
-/// As for `many`, except that combine too remembers over a cut that the first turn committed.
+/// They are those of `many`, but that the crate too remembers over a cut that the first turn committed.
 ///
 /// # Examples
 ///
@@ -93,9 +93,9 @@ pub fn many1<F, P>(alloc: Global, parser: P) -> Many1<F, P>
     Repeat::new(Each::new(alloc), parser, FirstThenMore::<1>)
 }
 
-/// Runs `parser` as `many` does, and drops the values.
+/// Runs turns as `many` does, and drops the values.
 ///
-/// It allocates nothing of its own but an error's message.
+/// It takes no memory of its own, but for that of an error's message.
 ///
 /// # Examples
 ///
@@ -113,9 +113,9 @@ pub fn skip_many<P>(parser: P) -> SkipMany<P>
     Repeat::new(Dropped, parser, ZeroOrMore)
 }
 
-/// Runs `parser` as `many1` does, and drops the values.
+/// Runs turns as `many1` does, and drops the values.
 ///
-/// It allocates nothing of its own but an error's message.
+/// It takes no memory of its own, but for that of an error's message.
 #[inline]
 pub fn skip_many1<P>(parser: P) -> SkipMany1<P>
     ensures { result ≡ skip_many1_of parser }

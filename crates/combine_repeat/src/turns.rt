@@ -1,4 +1,4 @@
-//! The loop of all repetitions, and the state that it keeps.
+//! The loop that all repetitions run, and what it keeps.
 ghost use Rattle.std.specs.Prelude.{◌≡◌, ◌||◌, ℕ, Bool, false, true, MatchResult, if◌then◌else◌};
 ghost use Rattle.combine_base.specs.Stream.View.{View, Takes};
 ghost use Rattle.combine_base.specs.Parser.AnswersCalls.{AnswersCall};
@@ -22,7 +22,7 @@ use combine_base::stream::{Kind, Stream, asks_for_more, needs_more};
 use std::alloc::AllocError;
 use std::mem;
 
-/// The parser of each turn; the first turn may differ from the later ones.
+/// What runs in a turn: the first one, or any later one, which may differ.
 pub trait TurnParser<Input: Stream> {
     ghost use Rattle.std.specs.Prelude.{◌≡◌, Bool, true};
     ghost use Rattle.combine_base.specs.Parser.Meaning.{Meaning};
@@ -32,10 +32,10 @@ pub trait TurnParser<Input: Stream> {
     ghost use Rattle.combine_base.specs.Stream.Calls.{Passes};
     ghost use Rattle.combine_repeat.specs.Turns.Turn.{Start, TurnsSame, TurnsOnce, TurnsGive, IsTurn, called};
 
-    /// The value of a turn.
+    /// What a turn gives.
     type Value: Drop;
 
-    /// The kept state of a running turn.
+    /// What is kept of a running turn.
     type Running: Default + Drop;
 
     ghost lawful: { Self → Type 0 };
@@ -44,19 +44,19 @@ pub trait TurnParser<Input: Stream> {
 
     ghost valid: { Self.Running → Type 0 };
 
-    /// The meaning of the first turn from its start, and of any turn from a kept state.
+    /// The first turn from its start, and any from a kept state.
     ghost meaning: { Self → Meaning Input.Position Input.Token Input.Range Input.Error Self.Value Self.Running };
 
-    /// The meaning of a later turn from its start: its outcomes, and the errors of its refusals.
+    /// A later turn from its start: its outcomes, and the errors of its refusals.
     ghost again: { Self → Start Input.Position Input.Token Input.Error Self.Value };
 
     /// The values that end the turns.
     ghost ending: { Self.Value → Bool };
 
-    /// Holds of each value of a turn.
+    /// What holds of each value that a turn gives.
     ghost gives: { Self.Value → Type 0 };
 
-    /// Parses a turn: from its start, the first one or, if `later`, a later one; else from the kept state.
+    /// Parses the first turn, or goes on with any from the kept state.
     fn parse_turn<M: ParseMode>(
         &mut self,
         later: bool,
@@ -74,7 +74,7 @@ pub trait TurnParser<Input: Stream> {
         ensures answers { AnswersCall Input.StreamOnce Input.Error.observers Self.Running.is_default (called (meaning self.old) (again self.old) later) (M.first mode) state.old state.new input.old input.new result }
         ensures refuses { ReasonedCall Input.Error.observers (called (meaning self.old) (again self.old) later) (M.first mode) state.old (Input.view input.old) (Input.view input.new) result };
 
-    /// Adds the items of the first turn.
+    /// Adds what the first turn adds.
     fn add_error(&mut self, error: &mut Tracked<Input::Error>)
         requires { lawful self.old }
         ensures lawful { lawful self.new }
@@ -94,9 +94,9 @@ pub trait TurnParser<Input: Stream> {
     ghost gives_only: { (p : Self) → lawful p → TurnsGive valid (meaning p) (again p) gives };
 }
 
-/// The type of a collection, for every type of values. So the compiler finds the value of a repetition without that of its part.
+/// What values are gathered into, whatever these are. So the compiler finds the value of a repetition without that of its part.
 pub trait Gathers {
-    /// The collection.
+    /// What they are gathered into.
     type Into: Drop;
 }
 
@@ -105,29 +105,29 @@ pub trait Gather<A> {
     ghost use Rattle.std.specs.Prelude.{◌≡◌, Bool, MatchResult};
     ghost use Rattle.combine_repeat.specs.Turns.SoundValues.{KeepsSound};
 
-    /// The collection.
+    /// What they are gathered into.
     type Collection: Drop;
 
     ghost Held: { Type 0 };
 
     ghost held: { Self.Collection → Held };
 
-    /// The contents before any value.
+    /// What is held before any value.
     ghost none: { Held };
 
-    /// The contents after one more value.
+    /// What is held after one more value.
     ghost more: { Held → A → Held → Type 0 };
 
-    /// Precondition of `gather` on each value, as that a function can be called.
+    /// What gathering needs of a value, as that a function can be called.
     ghost able: { A → Type 0 } = { λ _. Unit {0} };
 
-    /// Invariant of the contents, if each value met the precondition: before any turn is over, and after that.
+    /// What is known of what is held, where no turn is over or one is, and each value of it met that need.
     ghost sound: { Bool → Held → Type 0 };
 
-    /// Holds if gathering allocates nothing.
+    /// Holds where it takes no memory.
     ghost heapless: { Type 0 };
 
-    /// Adds a value to the collection.
+    /// Adds a value to what is gathered.
     fn gather(into: Self::Collection, value: A) -> Result<Self::Collection, AllocError>
         requires { able value }
         ensures { MatchResult result (λ i. more (held into) value (held i)) (λ _. heapless → ⊥) };
@@ -135,28 +135,28 @@ pub trait Gather<A> {
     ghost keeps_sound: { KeepsSound none more able sound };
 }
 
-/// How a repetition makes its collection, before it gathers values.
+/// How values are gathered from none on.
 pub trait Collect<A>: Gather<A> {
     ghost use Rattle.std.specs.Prelude.{◌≡◌, MatchResult, Bool};
 
-    /// Whether the collection shows the values.
+    /// Whether what is gathered shows the values.
     ghost keeps: { Bool };
 
-    /// Returns an empty collection, with room for `room` values.
+    /// Returns an empty gathering, with room for that many values.
     fn empty(&self, room: usize) -> Result<Self::Collection, AllocError>
         ensures { MatchResult result (λ i. Self.held i ≡ Self.none) (λ _. Self.heapless → ⊥) };
 
-    /// Returns whether the collection shows the values.
+    /// Returns whether what is gathered shows the values.
     fn keeps(&self) -> bool
         ensures { result ≡ keeps };
 
-    /// Every value may be gathered, and the contents have no invariant.
+    /// It takes each value, and nothing is asked of what is held.
     ghost takes_any: { (a : A) → Self.able a };
 
     ghost holds_any: { (k : Bool) (h : Self.Held) → Self.sound k h };
 }
 
-/// The turns so far: the collection, whether one committed, and the index of the running turn.
+/// The turns so far: what is gathered, whether one committed, and which one runs.
 #[derive(Drop)]
 pub struct TurnProgress<F> {
     into: F,
@@ -165,7 +165,7 @@ pub struct TurnProgress<F> {
 }
 
 impl<F> TurnProgress<F> {
-    /// Returns the turns before any is over.
+    /// Returns the turns where none is over yet: the first one runs, or would if there is one.
     #[inline]
     pub fn none_yet(into: F) -> TurnProgress<F>
         ensures { result ≡ record { into = into; committed = false; index = record { number = 0; took_before = false } } }
@@ -177,7 +177,7 @@ impl<F> TurnProgress<F> {
         }
     }
 
-    /// Returns the turns with one more commitment, or none.
+    /// Returns the turns with one more, which is committed or not.
     #[inline(always)]
     fn or_committed(self, committed: bool) -> TurnProgress<F>
         ensures { result ≡ record { into = self.into; committed = self.committed || committed; index = self.index } }
@@ -211,7 +211,7 @@ impl<F> TurnProgress<F> {
         }
     }
 
-    /// Ends the turns, and accepts the collection.
+    /// Accepts what is gathered: the turns end.
     #[inline(always)]
     fn end<E>(self) -> ParseResult<F, E>
         ensures { result ≡ accepted_as self.committed self.into }
@@ -224,7 +224,7 @@ impl<F> TurnProgress<F> {
         accepted_after(committed, into)
     }
 
-    /// Refuses if a required turn is refused peeked: committed if a turn before it was.
+    /// Refuses where a turn that is missing is refused peeked: committed if a turn before it was.
     #[inline(always)]
     fn refused<E: Drop>(self, refusal: Tracked<E>) -> ParseResult<F, E>
     where
@@ -235,7 +235,7 @@ impl<F> TurnProgress<F> {
     }
 }
 
-/// The kept turns before the running one.
+/// What is kept of the turns before the one that runs.
 #[derive(Drop)]
 pub enum Earlier<F> {
     /// No turn is over, and nothing is gathered.
@@ -244,7 +244,7 @@ pub enum Earlier<F> {
     Gathered(TurnProgress<F>),
 }
 
-/// The kept state of a repetition: the turns so far, and the state of the running one.
+/// What a repetition keeps while more input is needed: the turns so far, and the state of the one that runs.
 #[derive(Drop)]
 pub struct TurnsState<F, S> {
     earlier: Earlier<F>,
@@ -264,7 +264,7 @@ impl<F, S: Default> Default for TurnsState<F, S> {
 }
 
 impl<F: Drop, S: Default + Drop> TurnsState<F, S> {
-    /// Takes the saved turns when resuming, if there are any, else returns `start`. A call that begins afresh resets the running turn's state.
+    /// Takes the turns that are kept, if the call resumes and there are any; else those of the start. A call that begins afresh runs its first turn from a default state.
     #[inline(always)]
     fn begin(&mut self, first: bool, start: TurnProgress<F>) -> TurnProgress<F>
         ensures turns { result ≡ (if first then start else kept_or start self.old.earlier) }
@@ -284,7 +284,7 @@ impl<F: Drop, S: Default + Drop> TurnsState<F, S> {
     }
 }
 
-/// The outcome of a turn.
+/// What a turn did.
 pub enum TurnStep<F, E> {
     /// It is a block, and the next one runs.
     Goes(TurnProgress<F>),
@@ -296,7 +296,7 @@ pub enum TurnStep<F, E> {
 pub enum TurnStop<F, E> {
     /// The turns end, accepted.
     Over(TurnProgress<F>),
-    /// A required turn is refused peeked.
+    /// A turn that is missing is refused peeked.
     Refused(TurnProgress<F>, Tracked<E>),
     /// The turn needs more.
     More(TurnProgress<F>, E),
@@ -304,9 +304,9 @@ pub enum TurnStop<F, E> {
     Failed(E),
 }
 
-/// Parses a turn, which begins afresh or resumes from its state.
+/// Parses a turn, which begins afresh or goes on from its state.
 ///
-/// One that begins afresh has a state of its own, which is stored only on need of more.
+/// One that begins afresh has a state of its own, which is stored on need of more alone.
 #[inline(always)]
 fn parse_turn<Input: Stream, P: TurnParser<Input>, M: ParseMode>(
     parser: &mut P,
@@ -336,7 +336,7 @@ fn parse_turn<Input: Stream, P: TurnParser<Input>, M: ParseMode>(
     answer
 }
 
-/// Returns an error of kind `why` with the number of missing turns.
+/// Makes the error of a refusal of that kind that says how many turns are missing.
 #[inline]
 fn too_few<Input: Stream>(
     input: &Input,
@@ -351,7 +351,7 @@ fn too_few<Input: Stream>(
     error
 }
 
-/// Gathers the turn's value, and goes on to the next turn.
+/// Gathers what the turn gave, and goes on to the next one.
 #[inline(always)]
 fn gather_turn<A, G: Gather<A>>(
     turns: TurnProgress<G::Collection>,
@@ -373,7 +373,7 @@ fn gather_turn<A, G: Gather<A>>(
     })
 }
 
-/// Judges a turn that is refused peeked; `since` and `position` are where it began.
+/// Judges a turn that is refused peeked, the stream having stood at that checkpoint and position where it began.
 #[inline(always)]
 fn judge_refusal<G: Gather<P::Value>, Input: Stream, P: TurnParser<Input>, B: TurnBounds>(
     bounds: B,
@@ -405,7 +405,7 @@ fn judge_refusal<G: Gather<P::Value>, Input: Stream, P: TurnParser<Input>, B: Tu
     }
 }
 
-/// Runs one turn, and gathers its value if it is a block.
+/// Runs one turn, and gathers its value where it is a block.
 #[inline(always)]
 fn one_turn<G: Gather<P::Value>, Input: Stream, P: TurnParser<Input>, B: TurnBounds, M: ParseMode>(
     parser: &mut P,
@@ -457,7 +457,7 @@ fn one_turn<G: Gather<P::Value>, Input: Stream, P: TurnParser<Input>, B: TurnBou
     }
 }
 
-/// Returns the result of turns that stopped for this reason, and keeps them in `state` if they need more.
+/// Returns the result of turns that stopped for this reason. If they need more, they are kept in `state`.
 #[inline(always)]
 fn stopped<F: Drop, S: Drop, E: Drop>(
     why: TurnStop<F, E>,
@@ -477,7 +477,7 @@ fn stopped<F: Drop, S: Drop, E: Drop>(
     }
 }
 
-/// Runs the turns of one call, from the kept ones, or else from `start`.
+/// Makes one call of turns, which go on from what is kept, or else begin from `start`.
 #[inline(always)]
 pub fn take_turns<
     G: Gather<P::Value>,
@@ -528,7 +528,6 @@ pub fn take_turns<
             }
         }
     }
-    // The label names the loop's invariant.
     'turns: loop {
         if bounds.is_full(turns.index) {
             return turns.end();

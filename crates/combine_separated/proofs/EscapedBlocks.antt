@@ -1,4 +1,4 @@
--- a block of a choice of two parsers, whose values are dropped, is a block of a text with escapes
+-- a block of a choice of two parsers, whose values are dropped, is one of a text with escapes
 use Rattle.std.proofs.Common.{◌≡◌, ◌↔◌, List, [], ◌∷◌, Bool, true, false, refl, sym, subst, ap, ◌∙◌}
 use Rattle.combine_base.specs.Stream.View.{View}
 use Rattle.combine_base.specs.Parser.Outcome.{Outcome, Accepted, Refused, Undecided, shape}
@@ -17,7 +17,7 @@ use Rattle.combine_choice.specs.Choice.Choices.{OrElse, Here, Later, firm_or, la
 use Rattle.combine_token.specs.Token.OneToken.{of_function, one_token, one_token_at, satisfied}
 
 module _ {P T A B : Type 0} (step : P → T → P) (is_escape : T → Bool) (plain : Reading P T A) (escaped : Reading P T B) where
-  -- the escape, and the value after it
+  -- the escape, and what is behind it
   abbrev pair : Reading P T (T × B)
   pair = sequel step push_1 (following false (push_0 tt) (one_token (satisfied (of_function is_escape)))) (λ _. escaped)
 
@@ -27,7 +27,7 @@ module _ {P T A B : Type 0} (step : P → T → P) (is_escape : T → Bool) (pla
   abbrev choice : Reading P T (Unit {0})
   choice = OrElse (no_value plain) (OrElse (no_value pair) refused)
 
-  -- the rest after the token that was read, or where none was
+  -- what stands behind the token that was read, or where none was
   behind : (v : View P T) (us : List T) (p : Outcome T) → one_token_at (satisfied (of_function is_escape)) v.is_open us p → (o : Outcome (T × B)) → continues step push_1 (λ _. escaped) v (joined 0 false (push_0 tt) p) o → escape_at step is_escape plain escaped v us (shape o)
   behind v [] (Accepted t n k) d o c = absurd d.1
   behind v [] (Refused k) d o c = rw (c, d.0, d.2) refl
@@ -36,7 +36,7 @@ module _ {P T A B : Type 0} (step : P → T → P) (is_escape : T → Bool) (pla
   behind v (t ∷ ts) (Refused k) d o c = rw (← d.0, c, d.1) refl
   behind v (t ∷ ts) Undecided d o c = absurd d
 
-  -- a token that is read, or isn't there, and the rest
+  -- a token that is read, or isn't there, and what stands behind it
   abbrev Stands : View P T → List T → Outcome (Unit {0}) → Type 0
   Stands v us o = (i : Outcome (T × B)) × (shape i ≡ o) × (p : Outcome T) × one_token_at (satisfied (of_function is_escape)) v.is_open us p × continues step push_1 (λ _. escaped) v (joined 0 false (push_0 tt) p) i
 

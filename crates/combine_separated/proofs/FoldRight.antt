@@ -1,4 +1,4 @@
--- chains: at least one operand, and operands folded from the right, the last operator first
+-- chains: one operand at least, and operands folded from the right, the last operator first
 use Rattle.std.proofs.Common.{rules, ℕ, zero, suc, ◌-◌, ◌<◌, nat_lt, not, ◌≡◌, Bool, true, List, [], ◌∷◌, ◌++◌, None, length, refl, subst, arith}
 use Rattle.combine_repeat.specs.Repeat.Repeated.{no_value_ends}
 use Rattle.combine_repeat.specs.Turns.SoundValues.{EndsAt, Full, Enough, ByValue, EndsSound}
@@ -18,7 +18,7 @@ module _ {O V : Type 0} (post : O → V → V → V → Type 0) where
   fold_none [] last e = refl
   fold_none (x ∷ xs) last e = absurd (omega arith)
 
--- the last operator is good, and so are those before it
+-- the last operator is good, and those before it
 pub last_good : {O V : Type 0} (good : O → Type 0) (xs : List (PendingOperand O V)) (x : PendingOperand O V) → all_good good (xs ++ x ∷ []) → all_good good xs × good x.operator
 last_good good [] x d = (tt, d.0)
 last_good good (y ∷ xs) x d = let h = last_good good xs x d.1 in ((d.0, h.0), h.1)
@@ -26,7 +26,7 @@ last_good good (y ∷ xs) x d = let h = last_good good xs x d.1 in ((d.0, h.0), 
 has_one : (n : ℕ) → nat_lt 0 (suc n) ≡ true
 has_one n = let l : 0 < suc n = omega arith in search rules
 
--- turns with one required turn end after one
+-- turns of which one is asked for end behind one
 module _ {A V : Type 0} (sound : Bool → V → Type 0) (v : V) where
   by_end : (g : TurnIndex) → EndsAt {A = A} (OwnFirst 1 None) no_value_ends g → sound (nat_lt 0 g.number) v → sound true v
   by_end g (Full f) s = absurd (cc)

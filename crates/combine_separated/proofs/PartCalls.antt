@@ -1,4 +1,4 @@
--- a call of a part from a state of its own, inside a call with other states: its result is the result, with its value changed
+-- a call of a part from a state of its own, inside a call with other states: its answer is the answer, its value changed
 use Rattle.std.proofs.Common.{ℕ, ◌≡◌, ◌⊎◌, inl, inr, Bool, false, refl, ap, sym, arith, zero-add}
 use Rattle.combine_base.specs.Stream.View.{View}
 use Rattle.combine_base.specs.Parser.Outcome.{Outcome, Accepted, Refused, Undecided}
@@ -17,7 +17,7 @@ use Rattle.combine_base.specs.declared.error.result.ParseResult.TheVariants.{Com
 use Rattle.combine_separated.specs.PartCalls.{RanPart}
 
 module _ {P T R A B S S' E : Type 0} (w : World P T S E) (fresh : S' → Type 0) (m : Meaning P T R E A S) (m' : Meaning P T R E B S') (f : A → B) (keep : S → S') where
-  -- the kept state of the part continues as the part does
+  -- what is kept for the part goes on as the part does
   pub record Keeping : Type 0 where
     pub rest : (s : S) (v : View P T) (o : Outcome B) → m'.rest (keep s) v o → following false f (m.rest s) v o
     pub found : (s : S) (v : View P T) → m'.lost (keep s) v → m.lost s v
@@ -26,7 +26,7 @@ module _ {P T R A B S S' E : Type 0} (w : World P T S E) (fresh : S' → Type 0)
     pub heapless : m'.heapless → m.heapless
 
   module _ (part_state : S) (first : Bool) (given : S') where
-    -- the call begins as the part does
+    -- the call begins as that of the part does
     pub record BeginsAsPart : Type 0 where
       pub meant : (v : View P T) (o : Outcome B) → following false f (m.rest part_state) v o → begun m' first given v o
       pub lost : (v : View P T) → m.lost part_state v → (first ≡ false) × m'.lost given v

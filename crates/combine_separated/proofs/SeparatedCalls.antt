@@ -24,7 +24,7 @@ use Rattle.combine_separated.specs.declared.separated.TurnPlace.TheVariants.{Fir
 use Rattle.combine_separated.specs.declared.pair.PairState.{PairState}
 use Rattle.combine_separated.specs.declared.pair.PairState.TheVariants.{Separator, Part as PairPart}
 
--- the state that the call leaves is valid
+-- what is left is valid
 module _ {P T R A B S S' E : Type 0} (w : World P T S E) (m : Meaning P T R E A S) (valid : S → Type 0) (f : A → B) (keep : S → S') (valid' : S' → Type 0) where
   pub ran_valid : ((s : S) → valid s → valid' (keep s)) → {state : S} {start left : S'} {old new : View P T} {before after : Failures} {result : ParseResult B E} → valid' start → RanPart w m valid f keep state start left old new before after result → valid' left
   ran_valid h {start = start} {left = left} {new = new} d p = by_left p.leaves
@@ -51,7 +51,7 @@ module _ {P T R A C D O W U E : Type 0} (w : World P T U E) (fresh' : PairState 
   keeps_first : (later : Bool) → Keeping w (separated_fresh w.fresh) m (turn later) j (λ s. Part leads.Nothing s)
   keeps_first later = record { rest = λ s v o x. x; found = λ s v x. x; keeps = λ x. x.0; puts_back = λ x. absurd x; heapless = λ x. x.0 }
 
-  -- the place of a kept state of a later separator and part
+  -- what is kept of a later separator and part stands in them
   later_place : (s : PairState O W U) → turn_place (later_kept s) ≡ Later s
   later_place (Separator w) = refl
   later_place (PairPart o c u) = refl
@@ -79,7 +79,7 @@ module _ {P T R A C D O W U E : Type 0} (w : World P T U E) (fresh' : PairState 
     later_runs fresh_valid valid h true true given s k p = placed (around w fresh') (separated_fresh w.fresh) n (turn true) f later_kept s true given (record { meant = λ v o x. (following_same false f (n.rest s) n.whole (λ v o. h.start s v o k) v o).0 x; lost = λ v x. absurd (h.found s v k x) }) (keeps_later true) valid start left d old new before after result p
     later_runs fresh_valid valid h false true given s k p = absurd k
 
-    -- the errors of its refusal
+    -- which errors its refusal has
     abbrev pub Reasons : Bool → Bool → SeparatedState O W U → Type 0
     Reasons later first given = Reasoned w.kind new.is_open (begun_refuses (turn later) first given old new) result
 
@@ -96,7 +96,7 @@ module _ {P T R A C D O W U E : Type 0} (w : World P T U E) (fresh' : PairState 
     later_runs_reasons fresh_valid valid h true true given s k p = reasoned_into (λ c x. (h.reasons s k old new c x).0) (ran_reasons (around w fresh') n valid f later_kept p)
     later_runs_reasons fresh_valid valid h false true given s k p = absurd k
 
--- a state that is left of a later separator and part is valid
+-- what is left of a later separator and part is valid
 pub later_valid : {O W U : Type 0} (valid : U → Type 0) (valid' : PairState O W U → Type 0) (s : PairState O W U) → valid' s → separated_valid valid valid' (later_kept s)
 later_valid valid valid' (Separator w) d = d
 later_valid valid valid' (PairPart o c u) d = d

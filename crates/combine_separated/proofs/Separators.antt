@@ -1,4 +1,4 @@
--- the separator's value that a call of a pair keeps
+-- what is kept of a separator, behind a call of a pair
 use Rattle.std.proofs.Common.{◌≡◌, ◌⊎◌, inl, inr, ℕ, Bool, true, false, ap, sym, subst}
 use Rattle.combine_base.specs.Stream.View.{View}
 use Rattle.combine_base.specs.Parser.GivenValues.{GivesOnly}
@@ -19,14 +19,14 @@ use Rattle.combine_separated.specs.declared.pair.PairState.{PairState}
 use Rattle.combine_separated.specs.declared.pair.PairState.TheVariants.{Separator, Part}
 
 module _ {P T R E O W U : Type 0} {valid : W → Type 0} {s : Meaning P T R E O W} {good : O → Type 0} where
-  -- the kept value is good
+  -- what is kept is good
   pub led_good : GivesOnly valid s good → (part : U → Type 0) (from left : PairState O W U) → led_valid good valid part from → LedBy s from left → pair_good good left
   led_good h part (Separator w) (Separator x) d e = tt
   led_good h part (Separator w) (Part o c u) d e = let i = e.is in (h.rest w d.1).one i.0 o i.1 i.2 i.3
   led_good h part (Part o c u) (Separator x) d e = tt
   led_good h part (Part o c u) (Part a k x) d e = subst good (sym e.is) d.0
 
--- a pair that begins keeps no separator's value
+-- a pair that begins keeps nothing of a separator
 pub begins_led : {O W U : Type 0} (good : O → Type 0) {fresh valid : W → Type 0} (part : U → Type 0) → ((w : W) → fresh w → valid w) → (z : PairState O W U) → pair_begins fresh z → led_valid good valid part z
 begins_led good part h (Separator w) d = (tt, h w d)
 begins_led good part h (Part o c u) d = absurd d
@@ -45,7 +45,7 @@ module _ {O W U : Type 0} where
   begins_still fresh o (Part a k x) d = absurd d
 
 module _ {P T R O V W U E : Type 0} (w : World P T U E) (errors : Observers T R P E) (valid : U → Type 0) (start left : PairState O W U) (m : Meaning P T R E V U) (fresh : W → Type 0) (d : pair_begins fresh start) (old new : View P T) (before after : Failures) (result : ParseResult (O × V) E) where
-  -- if the part ran, the kept value is unchanged
+  -- where the part ran, what stands before it is as it was
   pub runs_still : (o : O) (c : Bool) (u : U) → RunsLastPart w errors valid (λ z. z ≡ start) pair_place m c (put_to o) (λ y. record { value = o; committed = c; state = y }) left old new before after result u → still o left
   runs_still o c u r = by_left r.leaves
     where
@@ -66,7 +66,7 @@ module _ {P T R O V W U E : Type 0} (w : World P T U E) (errors : Observers T R 
     given_start (Separator y) b = tt
     given_start (Part a c y) b = absurd b
 
-    -- and if the separator ran, the kept value is its own
+    -- and where the separator ran, what is kept of it is what it gave
     pub led_rest : (kept : W) (answer : ParseResult O E) → Answers around s (call_from x stopped v u i j) answer → ContinuesSequence w errors valid (λ z. z ≡ start) pair_place put_to m kept left old new before after result answer → LedBy s (Separator x) left
     led_rest kept (CommitOk a) p g = let r = g.is in record { is = given_still a p.is.count true p.is.meant left (runs_still a true r.state r.runs) }
     led_rest kept (PeekOk a) p g = let r = g.is in record { is = given_still a p.is.count false p.is.meant left (runs_still a false r.state r.runs) }

@@ -23,13 +23,13 @@ use Rattle.combine_repeat.specs.declared.turns.TurnsState.{TurnsState}
 use Rattle.combine_separated.specs.declared.operands.PendingOperand.{PendingOperand}
 use Rattle.combine_separated.specs.declared.operands.ChainOperands.{ChainOperands}
 
--- one more element, joined by an operator, with any value that its relation allows
+-- one more element, joined by an operator that may answer any value that its relation allows
 abbrev pub folds : {O V : Type 0} → (O → V → V → V → Type 0) → Option V → Element O V → Option V → Type 0
 folds post h (First v) i = i ≡ Some v
 folds post None (Then f v) i = i ≡ Some v
 folds {V = V} post (Some a) (Then f v) i = (b : V) × post f a v b × (i ≡ Some b)
 
--- the operands with an operator after them, and the last operand
+-- the operands with an operator behind them, and the last operand
 abbrev pub operands_to : {O V : Type 0} → List (PendingOperand O V) → Option V → Option (List (PendingOperand O V) × V)
 operands_to xs None = None
 operands_to xs (Some v) = Some (xs, v)
@@ -37,13 +37,13 @@ operands_to xs (Some v) = Some (xs, v)
 abbrev pub kept_operands : {O V : Type 0} → ChainOperands O V → Option (List (PendingOperand O V) × V)
 kept_operands z = operands_to z.before.items z.last
 
--- one more element: the first alone, or an operator, whose left operand is the last one, and an operand
+-- one more element: the first alone, or an operator, to the left of which stands what was last, and an operand
 abbrev pub keeps_operand : {O V : Type 0} → Option (List (PendingOperand O V) × V) → Element O V → Option (List (PendingOperand O V) × V) → Type 0
 keeps_operand h (First v) i = i ≡ Some ([], v)
 keeps_operand None (Then f v) i = i ≡ Some ([], v)
 keeps_operand (Some z) (Then f v) i = i ≡ Some (z.0 ++ record { operand = z.1; operator = f } ∷ [], v)
 
--- after a turn there is an operand
+-- after a turn something is held
 abbrev pub holds_one : {A : Type 0} → Bool → Option A → Type 0
 holds_one false h = Unit {0}
 holds_one true None = ⊥
@@ -66,7 +66,7 @@ abbrev pub good_operands : {O V : Type 0} → (O → Type 0) → Bool → Option
 good_operands good k h = held_good good h × holds_one k h
 
 module _ {O V : Type 0} (post : O → V → V → V → Type 0) (good : O → Type 0) where
-  -- one operand is kept after each turn
+  -- one operand is held after each turn
   pub keeps_one : KeepsSound {A = Element O V} None (folds post) (lead_good good) holds_one
   keeps_one = record { begins = tt; stays = stays }
     where
@@ -80,7 +80,7 @@ module _ {O V : Type 0} (good : O → Type 0) where
   more_good [] x d g = (g, tt)
   more_good (y ∷ xs) x d g = (d.0, more_good xs x d.1 g)
 
-  -- operators stay good
+  -- operators stay good where each one that is kept is
   pub keeps_good : KeepsSound {A = Element O V} None keeps_operand (lead_good good) (good_operands good)
   keeps_good = record { begins = (tt, tt); stays = stays }
     where
@@ -94,7 +94,7 @@ pub nothing_sound : {V S : Type 0} (sound : Bool → V → Type 0) (s : TurnsSta
 nothing_sound sound s d = λ t e. absurd (cc)
 
 module _ {O V : Type 0} (post : O → V → V → V → Type 0) where
-  -- the values of operands and operators, folded from the right, each operator with any value that its relation allows
+  -- what operands and operators give, folded from the right, each operator by any value that its relation allows
   abbrev pub folded_right : List (PendingOperand O V) → V → V → Type 0
   folded_right [] last r = r ≡ last
   folded_right (x ∷ xs) last r = (b : V) × folded_right xs last b × post x.operator x.operand b r
@@ -112,7 +112,7 @@ abbrev pub each_operand : {O V : Type 0} → Collecting (Element O V) (ChainOper
 each_operand = gathered kept_operands None keeps_operand ⊥
 
 module _ {P T R E O V Z U W : Type 0} (step : P → T → P) (errors : Observers T R P E) (c : Collecting (Element O V) Z) (gives : Z → V → Type 0) where
-  -- an operand, and then turns of an operator and an operand; their collection gives a value
+  -- an operand, and then turns of an operator and an operand; what they are gathered into gives a value
   abbrev pub chained : Meaning P T R E V U → Meaning P T R E O W → Meaning P T R E V (TurnsState Z (SeparatedState O W U))
   chained m s = mapped (elements_meaning step errors (OwnFirst 1 None) c m s) gives
 
@@ -130,11 +130,11 @@ module _ {P T R E O V U W : Type 0} (step : P → T → P) (errors : Observers T
     abbrev pub right_fold : Meaning P T R E V U → Meaning P T R E O W → Meaning P T R E V (TurnsState (ChainOperands O V) (SeparatedState O W U))
     right_fold = chained step errors each_operand (λ z. gives_right post (kept_operands z))
 
-    -- the same, where each call begins again
+    -- the same, of which each call begins again
     abbrev pub chainr1 : Meaning P T R E V U → Meaning P T R E O W → Meaning P T R E V (Unit {0})
     chainr1 m s = by_table same_outcome (right_fold m s) m.adds (right_fold m s).refuses
 
 module _ {P T R E O V U W : Type 0} (step : P → T → P) (errors : Observers T R P E) (m : Meaning P T R E V U) (s : Meaning P T R E O W) where
-  -- `operands` is one operand, and then turns of an operator and an operand
+  -- the operands are one, and then turns of an operator and an operand
   abbrev pub OperandsAreOneThenTurns : Type 0
   OperandsAreOneThenTurns = (v : View P T) (o : Outcome (ChainOperands O V)) → (operands step errors m s).whole v o ↔ one_then_turns step each_operand (following false first_element m.whole) (later_turn then_element (pair step errors s m)).reads v o

@@ -1,4 +1,4 @@
--- gathering of elements, the meaning of elements and separators, and its laws; a first element, and then turns under the rule of `many`
+-- how elements are gathered, what elements and separators mean, and the laws of that; a first element, and then turns under the rule of `many`
 use Rattle.std.specs.Prelude.{ℕ, Option, None, false, ◌↔◌}
 use Rattle.combine_base.specs.Error.Errors.{Observers}
 use Rattle.combine_base.specs.Parser.Meaning.{Meaning, IsMeaning, MeansOne, MeansSame}
@@ -18,7 +18,7 @@ use Rattle.combine_base.specs.Parser.Outcome.{Outcome}
 use Rattle.combine_base.specs.Sequence.Readings.{following}
 use Rattle.combine_repeat.specs.Repeat.OneThenTurns.{one_then_turns}
 
--- one more element, for any value of its separator
+-- one more element, whatever its separator gave
 abbrev pub each_element : {O A Held : Type 0} → (Held → A → Held → Type 0) → Held → Element O A → Held → Type 0
 each_element more h (First a) i = more h a i
 each_element more h (Then s a) i = more h a i
@@ -28,12 +28,12 @@ abbrev pub elements : {O A V : Type 0} → Collecting A V → Collecting (Elemen
 elements c = record { Held = c.Held; held = c.held; none = c.none; more = each_element c.more; heapless = c.heapless }
 
 module _ {P T R E O A V U W : Type 0} (step : P → T → P) (errors : Observers T R P E) (b : Bounds) (c : Collecting (Element O A) V) where
-  -- an element, and then turns of a separator and an element, within these bounds
+  -- an element, and then turns of a separator and an element, so many
   abbrev pub elements_meaning : Meaning P T R E A U → Meaning P T R E O W → Meaning P T R E V (TurnsState V (SeparatedState O W U))
   elements_meaning m s = turns_from step errors b no_value_ends c (none_yet c.none) (first_then first_element then_element m (pair step errors s m)) (later_turn then_element (pair step errors s m))
 
 module _ {P T R E O A V U W : Type 0} (step : P → T → P) (errors : Observers T R P E) (c : Collecting A V) where
-  -- at least `least` elements, and at most a greatest number, if there is one
+  -- at least so many elements, and at most so many if there is such a number
   abbrev pub sep_count_min_max : ℕ → Option ℕ → Meaning P T R E A U → Meaning P T R E O W → Meaning P T R E V (TurnsState V (SeparatedState O W U))
   sep_count_min_max least most = elements_meaning step errors (OwnFirst least most) (elements c)
 

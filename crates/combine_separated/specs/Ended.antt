@@ -1,4 +1,4 @@
--- a part, and then turns of a separator and an optional part, which end where it is missing
+-- a part, and then turns of a separator and perhaps the part, which end where it is missing
 use Rattle.std.specs.Prelude.{ℕ, ◌≡◌, Bool, true, false, Option, Some, None, refl, is_none}
 use Rattle.std.proofs.Common.{sym, subst, ◌∙◌}
 use Rattle.combine_base.specs.Error.Errors.{Observers}
@@ -36,7 +36,7 @@ closer_of p = p.separator
 abbrev pub ended_of : {X Y : Type 0} → X → Y → Ended X Y
 ended_of p s = record { part = optional_parser p; separator = s }
 
--- the separator's value is dropped
+-- what a separator gave is dropped
 abbrev pub after_separator : {A B : Type 0} → A × B → B
 after_separator t = t.1
 
@@ -82,7 +82,7 @@ module _ {P T A B C : Type 0} (step : P → T → P) (f : A → B → C) (e : C 
   continued u n n' m m' k k' j j' a a' c c' (Refused w) o h p p' y y' = absurd (cc)
   continued u n n' m m' k k' j j' a a' c c' Undecided o h p p' y y' = absurd (cc)
 
-  -- a parser after another, whose values alone decide
+  -- a parser after another, whose values alone say so
   pub sequel_alike : IsSingle r → EndsAlike d q → EndsAlike e (sequel step f r (λ _. q))
   sequel_alike g h = record { ends = λ v c c' m m' j j' w w'. by_first v c c' m m' j j' w.0 w'.0 w.1 w'.1 (g.one v w.0 w'.0 w.1 w'.1) w.2 w'.2 }
     where
@@ -109,7 +109,7 @@ module _ {P T A : Type 0} where
       by_cases v a a' n n' k k' (Passed d p) (Here q g) = absurd (let s = h.one v _ _ q.1 d in cc)
       by_cases v a a' n n' k k' (Passed d p) (Passed c q) = cc
 
-  -- optional parts that mean the same: so do the parts
+  -- what may be missing means the same: so does the part itself
   into : (r r' : Reading P T A) → ((v : View P T) (o : Outcome (Option A)) → OrElse (mapped_reading r is_some) nothing_taken v o → OrElse (mapped_reading r' is_some) nothing_taken v o) → (v : View P T) (o : Outcome A) → r v o → r' v o
   into r r' i v (Accepted a n k) p = by_value (i v (Accepted (Some a) n k) (Here (a, p, refl) tt))
     where

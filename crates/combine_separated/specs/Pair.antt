@@ -1,4 +1,4 @@
--- a separator and the part after it, as a tuple of two
+-- a separator and the part behind it, as a tuple of two
 use Rattle.std.specs.Prelude.{ℕ, ◌≡◌, Bool}
 use Rattle.combine_base.specs.Error.Errors.{Observers}
 use Rattle.combine_base.specs.Stream.View.{View}
@@ -12,7 +12,7 @@ use Rattle.combine_base.specs.declared.sequence.SequenceState.{SequenceState}
 use Rattle.combine_separated.specs.declared.pair.PairState.{PairState}
 use Rattle.combine_separated.specs.declared.pair.PairState.TheVariants.{Separator, Part}
 
--- the value of the part, after the separator's
+-- the value of the part, behind what the separator gave
 abbrev pub put_to : {O V : Type 0} → O → V → O × V
 put_to o v = (o, v)
 
@@ -27,22 +27,22 @@ pair_begins fresh = begins_sequence pair_place fresh
 abbrev pub pair_valid : {O W U : Type 0} → (W → Type 0) → (U → Type 0) → PairState O W U → Type 0
 pair_valid separator part = valid_in pair_place separator part
 
--- a kept separator's value is good
+-- what a separator gave, and is kept, is good
 abbrev pub pair_good : {O W U : Type 0} → (O → Type 0) → PairState O W U → Type 0
 pair_good good (Separator w) = Unit {0}
 pair_good good (Part o c u) = good o
 
--- a valid state that keeps only good values
+-- a valid state that keeps only what is good
 abbrev pub led_valid : {O W U : Type 0} → (O → Type 0) → (W → Type 0) → (U → Type 0) → PairState O W U → Type 0
 led_valid good separator part z = pair_good good z × pair_valid separator part z
 
--- the kept separator's value is this one
+-- what is kept of the separator is that
 abbrev pub still : {O W U : Type 0} → O → PairState O W U → Type 0
 still o (Separator x) = Unit {0}
 still o (Part a c u) = a ≡ o
 
 module _ {P T R E O W U : Type 0} (s : Meaning P T R E O W) where
-  -- the kept separator's value was given from that state
+  -- what is kept of the separator was given from that state
   abbrev pub given_from : W → PairState O W U → Type 0
   given_from w (Separator x) = Unit {0}
   given_from w (Part o c u) = (v : View P T) × (n : ℕ) × (k : Bool) × s.rest w v (Accepted o n k)
@@ -51,7 +51,7 @@ module _ {P T R E O W U : Type 0} (s : Meaning P T R E O W) where
   led_by (Separator w) left = given_from w left
   led_by (Part o c u) left = still o left
 
-  -- the separator's value that is kept after a call was kept before, or given in it
+  -- what is kept of the separator after a call is what was kept before, or what the separator gave in it
   pub record LedBy (from left : PairState O W U) : Type 0 where
     pub is : led_by from left
 
@@ -77,7 +77,7 @@ module _ {P T R E A S : Type 0} {valid fewer : S → Type 0} {m : Meaning P T R 
   pub fewer_means_one : MeansOne valid m → MeansOne fewer m
   fewer_means_one h = record { whole = h.whole; rest = λ s d. h.rest s (f s d) }
 
--- from the states that keep only good values
+-- from the states that keep only what is good
 module _ {P T R E A O W U : Type 0} (good : O → Type 0) (valid : W → Type 0) (part_valid : U → Type 0) {n : Meaning P T R E A (PairState O W U)} where
   pub led_is_meaning : {fresh : PairState O W U → Type 0} → IsMeaning fresh (pair_valid valid part_valid) n → IsMeaning fresh (led_valid good valid part_valid) n
   led_is_meaning h = fewer_is_meaning (λ z d. d.1) h

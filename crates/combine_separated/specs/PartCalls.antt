@@ -16,7 +16,7 @@ use Rattle.combine_separated.specs.declared.pair.PairState.{PairState}
 use Rattle.combine_separated.specs.declared.separated.SeparatedState.{SeparatedState}
 
 module _ {P T R A B S S' E : Type 0} (w : World P T S E) (m : Meaning P T R E A S) (valid : S → Type 0) (f : A → B) (keep : S → S') where
-  -- the part was run from that state; on need of more its state is kept, and else the state at the start
+  -- the part was run from that state; on need of more its state is kept, and else what was there at the start
   pub record RanPart (state : S) (start left : S') (old new : View P T) (before after : Failures) (result : ParseResult B E) : Type 0 where
     pub stopped : S
     pub answer : ParseResult A E
@@ -30,6 +30,6 @@ module _ {Input P T R E : Type 0} (i : stream.Ghosts Input T R P E) (observers :
   abbrev pub RanCall : {A B S S' : Type 0} (fresh : S → Type 0) (m : Meaning P T R E A S) (valid : S → Type 0) (f : A → B) (keep : S → S') (state : S) (start left : S') (input after : Input) → ParseResult B E → Type 0
   RanCall fresh m valid f keep state start left input after result = RanPart (world i.step observers i.counts_failures fresh) m valid f keep state start left (i.view input) (i.view after) (i.failures input) (i.failures after) result
 
-  -- a separator, and a part after it
+  -- a separator, and a part behind it
   abbrev pub RanLaterCall : {O V B W U : Type 0} (fresh : W → Type 0) (m : Meaning P T R E O W) (n : Meaning P T R E V U) (valid : PairState O W U → Type 0) (f : O × V → B) (state : PairState O W U) (start left : SeparatedState O W U) (input after : Input) → ParseResult B E → Type 0
   RanLaterCall fresh m n valid f = RanCall (pair_begins fresh) (pair i.step observers m n) valid f later_kept

@@ -1,4 +1,4 @@
--- elements, and separators of which the last may have no element after it
+-- elements, and separators of which the last may stand alone
 use Rattle.std.specs.Prelude.{Option, None, is_none}
 use Rattle.combine_base.specs.Error.Errors.{Observers}
 use Rattle.combine_base.specs.Parser.Meaning.{Meaning, IsMeaning, MeansOne, MeansSame}
@@ -13,12 +13,12 @@ use Rattle.combine_repeat.specs.declared.bounds.Bounds.TheVariants.{OwnFirst}
 use Rattle.combine_repeat.specs.declared.turns.TurnsState.{TurnsState}
 use Rattle.combine_separated.specs.declared.separated.SeparatedState.{SeparatedState}
 
--- the values that are there, collected
+-- the values that there are, collected
 abbrev pub somes : {A V : Type 0} → Collecting A V → Collecting (Option A) V
 somes c = record { Held = c.Held; held = c.held; none = c.none; more = some_more c.more; heapless = c.heapless }
 
 module _ {P T R E O A V U W : Type 0} (step : P → T → P) (errors : Observers T R P E) (b : Bounds) (c : Collecting A V) where
-  -- an element, and then turns of a separator and an optional element, which end where it is missing
+  -- an element, and then turns of a separator and perhaps an element, which end where it is missing
   abbrev pub sep_end : Meaning P T R E A U → Meaning P T R E O W → Meaning P T R E V (TurnsState V (SeparatedState O W U))
   sep_end m s = turns_from step errors b is_none (somes c) (none_yet c.none) (first_then some_of after_separator m (pair step errors s (optional m))) (later_turn after_separator (pair step errors s (optional m)))
 

@@ -22,18 +22,18 @@ part_of p = p.parser
 abbrev pub separator_of : {X Y K : Type 0} → Separated X Y K → Y
 separator_of p = p.separator
 
--- the first element, and a later one with its separator's value
+-- the first element, and a later one with what its separator gave
 abbrev pub first_element : {O V : Type 0} → V → Element O V
 first_element v = First v
 
 abbrev pub then_element : {O V : Type 0} → O × V → Element O V
 then_element t = Then t.0 t.1
 
--- no condition on a separator's value
+-- nothing is asked of what a separator gives
 abbrev pub any_lead : {O : Type 0} → O → Type 0
 any_lead o = Unit {0}
 
--- the value of a later element's separator is good
+-- what the separator of a later element gave is good
 abbrev pub lead_good : {O V : Type 0} → (O → Type 0) → Element O V → Type 0
 lead_good good (First v) = Unit {0}
 lead_good good (Then o v) = good o
@@ -44,7 +44,7 @@ turn_place (kept.Separator w) = at.Later (pairs.Separator w)
 turn_place (kept.Part leads.Nothing u) = at.First u
 turn_place (kept.Part (leads.Separator o c) u) = at.Later (pairs.Part o c u)
 
--- the kept state of a later separator and part
+-- what is kept of a later separator and part
 abbrev pub later_kept : {O W U : Type 0} → PairState O W U → SeparatedState O W U
 later_kept (pairs.Separator w) = kept.Separator w
 later_kept (pairs.Part o c u) = kept.Part (leads.Separator o c) u
@@ -78,12 +78,12 @@ begins_turn fresh fresh' false (at.Later s) = ⊥
 begins_turn fresh fresh' true (at.First s) = ⊥
 begins_turn fresh fresh' true (at.Later s) = fresh' s
 
--- the turn that a call runs: one that begins, or the kept one
+-- which turn a call runs: one that begins, or the one that is kept
 abbrev pub runs_turn : {O W U : Type 0} → (U → Type 0) → (PairState O W U → Type 0) → (later first : Bool) → SeparatedState O W U → TurnPlace U (PairState O W U) → Type 0
 runs_turn fresh fresh' later true given p = begins_turn fresh fresh' later p
 runs_turn fresh fresh' later false given p = turn_place given ≡ p
 
--- the errors of the running turn
+-- the errors of the turn that runs
 abbrev pub kept_refuses : {P T R E C D O W U : Type 0} → Meaning P T R E D U → Meaning P T R E C (PairState O W U) → TurnPlace U (PairState O W U) → Refusing P T E
 kept_refuses m n (at.First s) = m.refuses_from s
 kept_refuses m n (at.Later s) = n.refuses_from s

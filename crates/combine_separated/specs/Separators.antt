@@ -1,4 +1,4 @@
--- the values of separators, and turns that begin with them
+-- what separators give, and turns that begin with it
 use Rattle.std.specs.Prelude.{ℕ, Bool, false}
 use Rattle.std.proofs.Common.{sym, subst}
 use Rattle.combine_base.specs.Error.Errors.{Observers}
@@ -75,6 +75,6 @@ module _ {P T R E O V W U : Type 0} (step : P → T → P) (errors : Observers T
       resting (First u) d = first (m.rest u)
       resting (Later z) d = later ((pair step errors s m).rest z) (pair_gives.rest z d)
 
--- no condition on the separator's values
+-- where nothing is asked of what a separator gives
 pub any_given : {P T R E O W : Type 0} {valid : W → Type 0} {s : Meaning P T R E O W} → GivesOnly valid s (λ _. Unit {0})
 any_given = record { whole = record { one = λ v a n c w. tt }; rest = λ s k. record { one = λ v a n c w. tt } }

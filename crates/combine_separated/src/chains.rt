@@ -1,6 +1,6 @@
 //! Chains of operands and operators, which are folded, and texts with escapes.
 //!
-//! A turn that takes nothing is refused, committed, with the message `repetition takes nothing`, at the position where it began. The error of a refusal is exact, as for `sep_by1` and for `skip_many`.
+//! A turn that takes nothing is refused, committed, with the message `repetition takes nothing`, at the position where it began. Which error a refusal has is exact, as for `sep_by1` and for `skip_many`.
 ghost use Rattle.std.specs.Prelude.{◌≡◌};
 ghost use Rattle.combine_separated.specs.ChainParsers.{chainl1_of, chainr1_of, escaped_of};
 
@@ -15,15 +15,15 @@ use combine_token::token::token;
 use std::alloc::Global;
 use types::{Chain, Chainl1, Chainr1, Escaped};
 
-/// Parses operands with an operator between two of them, and folds them from the left by the functions that `operator` returns.
+/// Parses as `parser`, and then by turns as `operator` and `parser`: folds the values from the left, by the functions that `operator` gives.
 ///
 /// `operator: Parser<Input, Output = O>, O: FnOnce(P::Output, P::Output) -> P::Output`.
 ///
-/// The functions must be callable with any operands. It takes tokens as `sep_by1` does.
+/// The functions must always be callable. It takes as `sep_by1` does.
 ///
 /// # Errors
 ///
-/// As for `sep_by1`.
+/// It refuses as `sep_by1` does.
 ///
 /// # Partial input
 ///
@@ -51,25 +51,25 @@ pub fn chainl1<P, S>(parser: P, operator: S) -> Chainl1<P, S>
     Chain::new(FromLeft, parser, operator)
 }
 
-/// Parses operands with an operator between two of them, and folds them from the right by the functions that `operator` returns.
+/// Parses as `parser`, and then by turns as `operator` and `parser`: folds the values from the right, by the functions that `operator` gives.
 ///
 /// `operator: Parser<Input, Output = O>, O: FnOnce(P::Output, P::Output) -> P::Output`.
 ///
-/// The functions must be callable with any operands. It takes tokens as `sep_by1` does. The operands are stored in memory of `alloc`, not on the call stack.
+/// The functions must always be callable. It takes as `sep_by1` does. The operands are held in memory of `alloc`, and not on the call stack.
 ///
 /// # Errors
 ///
-/// - An operator without a right operand is refused, committed if the operator was. If that refusal is peeked, the operator is put back, and the chain ends.
+/// - An operator without a right operand is refused, committed if the operator was. Else it is put back, and the chain ends.
 /// - A turn that takes nothing is refused, committed, with the message `repetition takes nothing`.
-/// - Out of memory is the committed fault `Memory`.
+/// - If memory isn't found, that is the committed fault `Memory`.
 ///
 /// # Partial input
 ///
-/// On need of more all tokens are put back, and the next call begins again.
+/// On need of more everything is put back, and the next call begins again.
 ///
 /// # Differences from combine
 ///
-/// combine drops an operator without a right operand, and accepts. It is recursive, and on need of more it loses the tokens that it took.
+/// The crate's drops an operator without a right operand, and accepts. It calls itself, and on need of more the tokens that it took are gone.
 ///
 /// # Examples
 ///
@@ -89,23 +89,23 @@ pub fn chainr1<P, S>(alloc: Global, parser: P, operator: S) -> Chainr1<P, S>
     no_partial(Chain::new(FromRight(alloc), parser, operator))
 }
 
-/// Skips turns of `parser` or, where it is refused peeked, of the token `escape` and then `escaped`.
+/// Runs turns of `parser`, or, where it is refused peeked, of the token `escape` and then `escaped`, and drops the values.
 ///
-/// It is `skip_many` of a choice. If `parser` is refused peeked, and the next token isn't `escape` or ended input has no token left, the turns end, accepted, committed exactly if there was a turn.
+/// It is `skip_many` of a choice. If `parser` is refused peeked, another token or the end of ended input ends the turns, accepted, committed exactly if there was a turn.
 ///
 /// # Errors
 ///
 /// - A committed refusal of `parser` is the result. After the token `escape` a refusal of `escaped` is committed.
 /// - A turn that takes nothing is refused, committed, with the message `repetition takes nothing`.
-/// - `add_error` adds the items of `parser`, and then `escape` as expected.
+/// - Added to an error is what `parser` adds, and then that `escape` was expected.
 ///
 /// # Partial input
 ///
-/// On need of more the state keeps whether a turn committed, and the running parser.
+/// On need of more the state keeps whether a turn committed, and the part that runs.
 ///
 /// # Differences from combine
 ///
-/// combine doesn't put back the tokens that `parser` read before it was refused, and looks for the escape after them.
+/// The crate doesn't put back what `parser` read before it was refused, and looks for the escape after that.
 ///
 /// # Examples
 ///

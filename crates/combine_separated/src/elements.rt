@@ -1,4 +1,4 @@
-//! Gathering of elements.
+//! How elements are gathered.
 ghost use Rattle.std.specs.Prelude.{◌≡◌};
 ghost use Rattle.combine_separated.specs.Elements.{each_element};
 ghost use Rattle.combine_repeat.specs.Turns.SoundValues.{any_sound};
@@ -9,7 +9,7 @@ use combine_repeat::turns::Gather;
 use std::alloc::AllocError;
 use std::marker::PhantomData;
 
-/// Appends each element, and drops its separator's value.
+/// Each element is appended; what its separator gave is dropped.
 #[derive(Drop)]
 pub struct EachElement<F>(PhantomData<F>);
 

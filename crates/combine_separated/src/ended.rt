@@ -1,4 +1,4 @@
-//! The turns of `sep_end_by`: first a part, and later a separator and the part, or a separator alone, which ends them.
+//! What runs in each turn: a part, and later a separator and the part, or a separator alone, which ends the turns.
 ghost use Rattle.std.specs.Prelude.{◌≡◌, false, true, is_none};
 ghost use Rattle.combine_base.specs.Parser.Meaning.{MeansSame};
 ghost use Rattle.combine_base.specs.Stream.Calls.{Passes};
@@ -29,7 +29,7 @@ pub struct Ended<P, S> {
     pub(crate) separator: S,
 }
 
-/// Appends each value that is there.
+/// Each value that is there is appended.
 #[derive(Drop)]
 pub struct EachSome<F>(PhantomData<F>);
 
@@ -63,7 +63,7 @@ impl<A, F: Append<A>> Gather<Option<A>> for EachSome<F> {
     ghost keeps_sound = { any_sound };
 }
 
-/// Runs the first part, from its kept state.
+/// Runs the first part, from what is kept of it.
 #[inline(always)]
 fn run_first<Input: Stream, P: Parser<Input>, O: Drop, W: Drop, M: ParseMode>(
     parser: &mut P,
@@ -95,7 +95,7 @@ fn run_first<Input: Stream, P: Parser<Input>, O: Drop, W: Drop, M: ParseMode>(
     }
 }
 
-/// Runs a separator and an optional part, from their kept state.
+/// Runs a separator, and a part that may be missing, from what is kept of them.
 #[inline(always)]
 fn run_later<Input: Stream, P: Parser<Input>, S: Parser<Input>, M: ParseMode>(
     separator: &mut S,

@@ -1,4 +1,4 @@
-//! Gathering and folding of the operands of a chain: from the left as they come, or from the right, where they are kept until the last one.
+//! How the operands of a chain are gathered and folded: from the left as they come, or from the right, where they are kept until the last one.
 ghost use Rattle.std.specs.Prelude.{◌≡◌, List, []};
 ghost use Rattle.combine_separated.specs.Chains.{all_good, folded_right, folds, gives_right, good_operands, holds_one, keeps_good, keeps_one, keeps_operand, kept_operands};
 ghost use Rattle.combine_separated.specs.declared.operands.PendingOperand.{PendingOperand};
@@ -8,16 +8,16 @@ use crate::separated::{Element, Folds};
 use combine_repeat::turns::Gather;
 use std::alloc::{AllocError, Global};
 
-/// The side from which the operands of a chain are folded.
+/// From which side the operands of a chain are folded.
 pub trait Direction<O: Folds<V>, V>: Gather<Element<O, V>> {
     ghost use Rattle.std.specs.Prelude.{◌≡◌, true};
     ghost use Rattle.combine_separated.specs.Separated.{lead_good};
     ghost use Rattle.combine_separated.specs.declared.separated.Element.{Element};
 
-    /// The values that the operands may fold to.
+    /// What the operands give.
     ghost folded: { Self.Collection → V → Type 0 };
 
-    /// Returns the collection of no operands.
+    /// Returns what operands are gathered into, with none yet.
     fn start(&self) -> Self::Collection
         ensures { Self.held result ≡ Self.none };
 
@@ -26,11 +26,11 @@ pub trait Direction<O: Folds<V>, V>: Gather<Element<O, V>> {
         requires { Self.sound true (Self.held operands) }
         ensures { folded operands result };
 
-    /// Every operator that can be called may be gathered.
+    /// Each operator is taken that can be called.
     ghost takes_operators: { (a : Element O V) → lead_good (λ f. O.callable f) a → Self.able a };
 }
 
-/// Folds operands from the left.
+/// Operands are folded from the left.
 #[derive(Clone, Copy, Drop)]
 pub struct FromLeft;
 
@@ -88,7 +88,7 @@ impl<V: Drop, O: Folds<V> + Drop> Direction<O, V> for FromLeft {
     ghost takes_operators = { λ a g. g };
 }
 
-/// Keeps operands, in memory of the allocator, and folds them from the right.
+/// Operands are kept, in memory of that allocator, and folded from the right.
 #[derive(Clone, Copy, Drop)]
 pub struct FromRight(pub(crate) Global);
 
@@ -106,14 +106,13 @@ pub struct ChainOperands<O, V> {
     last: Option<V>,
 }
 
-/// Folds operands from the right; `last` has no operator after it.
+/// Folds operands from the right, of which the last has no operator after it.
 fn fold_right<O: Folds<V> + Drop, V: Drop>(before: Vec<PendingOperand<O, V>>, last: V) -> V
     requires { all_good (λ f. O.callable f) before.items }
     ensures { folded_right (λ f x y r. O.answers f x y r) before.items last result }
 {
     let mut before = before;
     let mut last = last;
-    // The label names the loop's invariant.
     'folding: while let Some(left) = before.pop() {
         let PendingOperand { operand, operator } = left;
         last = operator.fold_two(operand, last);

@@ -1,6 +1,6 @@
 //! A separator and the part after it.
 //!
-//! They run as a tuple of two does, from a state that a turn can take apart.
+//! They run as a tuple of two does, from a state of their own, whose parts a turn can take apart.
 ghost use Rattle.std.specs.Prelude.{◌≡◌, true};
 ghost use Rattle.combine_base.specs.Parser.Meaning.{MeansSame};
 ghost use Rattle.combine_base.specs.Sequence.SequenceCalls.{FollowsParts};
@@ -11,12 +11,12 @@ use combine_base::error::{ParseResult, accepted_after, refused_after};
 use combine_base::parser::{Calls, Outputs, ParseMode, Parser};
 use combine_base::stream::{Stream, needs_more};
 
-/// The kept state of a separator and a part while one of them runs.
+/// What is kept of a separator and a part while one of them runs.
 #[derive(Drop)]
 pub enum PairState<O, W, U> {
-    /// The separator runs, from this state.
+    /// The separator runs, from that state.
     Separator(W),
-    /// The part runs, from this state; the separator gave this value, and was committed or not.
+    /// The part runs, from that state: the separator gave that value, and was committed or not.
     Part(O, bool, U),
 }
 
@@ -36,9 +36,9 @@ pub type PairStateOf<Input, S, P> = PairState<
     <P as Parser<Input>>::PartialState,
 >;
 
-/// Runs a separator and a part, from their kept state.
+/// Runs a separator and a part, from what is kept of them.
 ///
-/// `state` has to be a default one, and keeps the state on need of more.
+/// `state` is a default one, and keeps what goes on where more is needed.
 #[inline(always)]
 pub fn parse_pair<Input: Stream, S: Parser<Input>, P: Parser<Input>, M: ParseMode>(
     separator: &mut S,
@@ -69,9 +69,9 @@ pub fn parse_pair<Input: Stream, S: Parser<Input>, P: Parser<Input>, M: ParseMod
     }
 }
 
-/// Goes on with the part, from its start, after the separator was accepted.
+/// Goes on with the part, from its start, where the separator has accepted.
 ///
-/// `kept` is the state that the separator left.
+/// `kept` is the state that it left.
 #[inline(always)]
 fn parse_rest<Input: Stream, O: Drop, W: Drop, P: Parser<Input>, M: ParseMode>(
     answer: ParseResult<O, Input::Error>,
@@ -101,9 +101,9 @@ fn parse_rest<Input: Stream, O: Drop, W: Drop, P: Parser<Input>, M: ParseMode>(
     parse_part(value, committed, kept, part, mode, input, state)
 }
 
-/// Runs the part, from its kept state, after the separator gave a value.
+/// Runs the part, from what is kept of it, where the separator gave a value.
 ///
-/// A peeked refusal is put back to where the part began, and explained by it. Need of more is kept in `state`, which every other result leaves unchanged.
+/// A peeked refusal is put back to where the part began, and explained by it. Need of more is kept in `state`, which every other result leaves as it was.
 #[inline(always)]
 fn parse_part<Input: Stream, O: Drop, W: Drop, P: Parser<Input>, M: ParseMode>(
     value: O,
@@ -133,7 +133,7 @@ fn parse_part<Input: Stream, O: Drop, W: Drop, P: Parser<Input>, M: ParseMode>(
     }
 }
 
-/// Runs the part as `parse_part` does, in a call that resumes; a function of its own, so that the code of calls that begin afresh has each part once.
+/// Runs the part as `parse_part` does, in a call that resumes: apart from the code of calls that begin afresh, which holds each part once.
 fn resume_part<Input: Stream, O: Drop, W: Drop, P: Parser<Input>, M: ParseMode>(
     value: O,
     committed: bool,

@@ -1,14 +1,14 @@
 //! Repetitions with a separator between the turns: a parser, and then turns of the separator and the parser, by the rule of sequences.
 //!
-//! The values are collected in any `F: Append<P::Output>`, for which the constructors take an allocator first; combine takes `F: Extend + Default`, and no allocator. The values of separators are dropped.
+//! The values are collected in any `F: Append<P::Output>`, for which the constructors take an allocator first; the crate takes `F: Extend + Default`, and no allocator. What a separator gives is dropped.
 //!
-//! The first element may take nothing. A later turn that takes nothing is refused, committed, with the message `repetition takes nothing`, at the position where it began; in combine such a parser may loop for ever. A turn that took its tokens in an earlier piece counts as one that takes them.
+//! The first element may take nothing. A later turn that takes nothing is refused, committed, with the message `repetition takes nothing`, at the position where it began; in the crate such a parser may hang. A turn that took its tokens in an earlier piece counts as one that takes them.
 //!
-//! If a separator is accepted committed and the element after it is refused, the turn is refused committed, and so is the whole. If the separator took nothing and wasn't committed, and the element is refused peeked, the turn is refused peeked and ends the turns.
+//! If a separator is accepted committed and the element after it is refused, the turn is refused committed, and so is the whole. If the separator took nothing, committed to nothing, and the element is refused peeked, the turn is refused peeked and ends the turns.
 //!
-//! Faults are as for `many`. On need of more the state keeps the collection, the number of elements, whether one committed, and the running turn. `add_error` adds the items of the parser of the elements.
+//! Faults are as for `many`. On need of more the state keeps what is collected, how many elements there were, whether one committed, and the turn that runs. What is added to an error is as for the parser of the elements.
 //!
-//! The error of a refusal is exact, as for `many`: a separator and the element after it refuse as a tuple of two does, and `sep_count_min_max` has the number of missing elements.
+//! Which error a refusal has is exact, as for `many`: a separator and the element after it refuse as a tuple of two does, and `sep_count_min_max` says how many elements are missing.
 ghost use Rattle.std.specs.Prelude.{◌≡◌, ◌≤◌, if◌then◌else◌};
 ghost use Rattle.combine_repeat.specs.Turns.Bounds.{fresh_turns_valid, is_unbounded, running_turn};
 ghost use Rattle.combine_repeat.specs.Repeat.Repeated.{appended};
@@ -32,9 +32,9 @@ use std::alloc::Global;
 use std::marker::PhantomData;
 use types::{SepBy, SepBy1, SepCountMinMax};
 
-/// Elements with a separator between two of them, collected; `B` bounds their number.
+/// Elements with a separator between two of them, collected. `B` bounds their number.
 ///
-/// The types of the separated repetitions are aliases of it.
+/// The types of the separated repetitions are its aliases.
 #[derive(Drop)]
 #[derive_where(Clone, Copy; P, S, B)]
 pub struct SepRepeat<F, P, S, B> {
@@ -106,13 +106,13 @@ impl<Input: Stream, P: Parser<Input>, S: Parser<Input>, F: Append<P::Output>, B:
         )
     }
 
-    /// Adds the items of the parser of the elements.
+    /// Adds what the parser of the elements adds.
     #[inline]
     fn add_error(&mut self, error: &mut Tracked<Input::Error>) {
         self.turn.parser.add_error(error);
     }
 
-    /// Counts as the parser of the elements does if any number is allowed, else as one parser.
+    /// Counts as the parser of the elements does; where their number is bounded it counts as one parser.
     #[inline]
     fn parser_count(&self) -> ErrorOffset {
         if self.bounds.is_unbounded() {
@@ -122,21 +122,21 @@ impl<Input: Stream, P: Parser<Input>, S: Parser<Input>, F: Append<P::Output>, B:
     }
 }
 
-/// Parses at least `min` and at most `max` elements by `parser`, with `separator` between two of them. Our own.
+/// Takes at least `min` and at most `max` elements, which are `parser`'s, with what `separator` takes between two of them. Our own.
 ///
-/// `min` has to be at most `max`. With `max` 0 the result is accepted, and nothing runs. After `max` elements it is accepted, and no further turn runs. A peeked refusal of a later turn is put back, and after at least `min` elements the result is accepted. With `min` 0 a peeked refusal of the first element is put back too, and accepted, peeked. Else an acceptance is committed exactly if a turn was.
+/// `min` has to be at most `max`. With `max` 0 it is accepted, and nothing runs. After `max` elements it is accepted, and no further turn runs. A peeked refusal of a later turn is put back, and after at least `min` elements the result is accepted. With `min` 0 a peeked refusal of the first element is put back too, and accepted, peeked. Else an acceptance is committed exactly if a turn was.
 ///
 /// # Errors
 ///
-/// - A refusal of the first element is the result, except a peeked one with `min` 0.
-/// - If a later turn is refused peeked after fewer than `min` elements, the result is refused with the message `expected N more elements`, at the position where that turn began. It is committed exactly if a turn was. Its kind is the kind of the turn's refusal: `End` where the input ended, and else `Refused`.
-/// - If a separator is committed and the element after it is refused, the refusal is committed.
+/// - The refusal of the first element is the result, but a peeked one with `min` 0.
+/// - A peeked refusal of a later turn after fewer than `min` elements refuses with the message `expected N more elements`, at the position where that turn began. It is committed exactly if a turn was. Its kind is that of the turn's refusal: `End` where the input ended, and else `Refused`.
+/// - A separator that is committed, with an element after it that is refused, refuses committed.
 /// - A later turn that takes nothing is refused, committed, with the message `repetition takes nothing`.
 /// - Faults are as for `many`.
 ///
 /// # Partial input
 ///
-/// On need of more the state keeps the collection, the number of elements, whether one committed, and the running turn.
+/// On need of more the state keeps what is collected, how many elements there were, whether one committed, and the turn that runs.
 ///
 /// # Examples
 ///
@@ -163,14 +163,14 @@ pub fn sep_count_min_max<F, P, S>(
     SepRepeat::new(alloc, bounds, parser, separator)
 }
 
-/// Parses any number of elements, with `separator` between two of them, and collects their values.
+/// Takes any number of elements, with what `separator` takes between two of them, and collects their values.
 ///
-/// It is `sep_count_min_max` with `min` 0 and no upper bound, with the same errors and kept state.
+/// It is `sep_count_min_max` with `min` 0 and no upper bound, and refuses and goes on as that does.
 ///
 /// # Differences from combine
 ///
-/// - A turn that takes nothing is refused; combine loops for ever.
-/// - Over a cut combine begins with an element again, even if a separator has to come next.
+/// - A turn that takes nothing is refused, where the crate goes round for ever.
+/// - Over a cut the crate begins with an element again, whatever has to come next.
 ///
 /// # Examples
 ///
@@ -189,13 +189,13 @@ pub fn sep_by<F, P, S>(alloc: Global, parser: P, separator: S) -> SepBy<F, P, S>
     SepRepeat::new(alloc, FirstThenMore::<0>, parser, separator)
 }
 
-/// Parses one or more elements, with `separator` between two of them, and collects their values.
+/// Takes at least one element, and any number, with what `separator` takes between two of them, and collects their values.
 ///
-/// It is `sep_count_min_max` with `min` 1 and no upper bound, with the same errors and kept state.
+/// It is `sep_count_min_max` with `min` 1 and no upper bound, and refuses and goes on as that does.
 ///
 /// # Differences from combine
 ///
-/// As for `sep_by`.
+/// They are those of `sep_by`.
 ///
 /// # Examples
 ///

@@ -1,12 +1,12 @@
-//! Repetitions with an optional separator at the end: a parser, and then turns of the separator and the parser. A separator after which the parser is refused peeked ends the turns, and stays taken.
+//! Repetitions whose last separator may stand alone: a parser, and then turns of the separator and the parser. A separator after which the parser is refused peeked ends the turns, and stays taken.
 //!
-//! The values are collected in any `F: Append<P::Output>`, for which the constructors take an allocator first; combine takes `F: Extend + Default`, and no allocator. The values of separators are dropped.
+//! The values are collected in any `F: Append<P::Output>`, for which the constructors take an allocator first; the crate takes `F: Extend + Default`, and no allocator. What a separator gives is dropped.
 //!
-//! The first element may take nothing. A later turn that takes nothing is refused, committed, with the message `repetition takes nothing`, at the position where it began, unless it ends the turns; in combine such a parser may loop for ever. A turn that took its tokens in an earlier piece counts as one that takes them.
+//! The first element may take nothing. A later turn that takes nothing is refused, committed, with the message `repetition takes nothing`, at the position where it began, unless it ends the turns; in the crate such a parser may hang. A turn that took its tokens in an earlier piece counts as one that takes them.
 //!
-//! Faults are as for `many`. On need of more the state keeps the collection, whether an element was parsed, whether one committed, and the running turn. `add_error` adds the items of the parser of the elements.
+//! Faults are as for `many`. On need of more the state keeps what is collected, whether an element was parsed, whether one committed, and the turn that runs. What is added to an error is as for the parser of the elements.
 //!
-//! The error of a refusal is exact, as for `sep_by`; a peeked refusal of the element after a separator is no refusal of the whole.
+//! Which error a refusal has is exact, as for `sep_by`: after a separator a peeked refusal of the element is none.
 ghost use Rattle.std.specs.Prelude.{◌≡◌};
 ghost use Rattle.combine_separated.specs.Pair.{pair_valid};
 ghost use Rattle.combine_separated.specs.Separated.{separated_default, separated_fresh, separated_valid};
@@ -31,7 +31,7 @@ use std::alloc::Global;
 use std::marker::PhantomData;
 use types::{SepEndBy, SepEndBy1};
 
-/// Elements with a separator between two of them and perhaps after the last, collected; `B` bounds their number.
+/// Elements with a separator between two of them and perhaps after the last, collected. `B` bounds their number.
 #[derive(Drop)]
 #[derive_where(Clone, Copy; P, S, B)]
 pub struct SepEndRepeat<F, P, S, B> {
@@ -100,7 +100,7 @@ impl<Input: Stream, P: Parser<Input>, S: Parser<Input>, F: Append<P::Output>, B:
         )
     }
 
-    /// Adds the items of the parser of the elements.
+    /// Adds what the parser of the elements adds.
     #[inline]
     fn add_error(&mut self, error: &mut Tracked<Input::Error>) {
         self.turn.part.0.add_error(error);
@@ -113,7 +113,7 @@ impl<Input: Stream, P: Parser<Input>, S: Parser<Input>, F: Append<P::Output>, B:
     }
 }
 
-/// Parses elements as `sep_end_by1` does, or none.
+/// Takes elements as `sep_end_by1` does, or none.
 ///
 /// If the first is refused peeked, it is put back, and the result is the empty collection, accepted peeked.
 ///
@@ -134,23 +134,23 @@ pub fn sep_end_by<F, P, S>(alloc: Global, parser: P, separator: S) -> SepEndBy<F
     SepEndRepeat::new(alloc, FirstThenMore::<0>, parser, separator)
 }
 
-/// Parses one or more elements by `parser`, with `separator` between two of them and perhaps after the last.
+/// Takes at least one element, which are `parser`'s, with what `separator` takes between two of them and perhaps after the last.
 ///
-/// A peeked refusal of a later separator is put back and ends the turns, accepted. A peeked refusal of the parser after a separator ends them too, and the separator's tokens stay taken. An acceptance is committed exactly if a turn was, or the separator that ended them.
+/// A peeked refusal of a later separator is put back and ends the turns, accepted. So does one of the parser after a separator, whose tokens stay taken. An acceptance is committed exactly if a turn was, or the separator that ended them.
 ///
 /// # Errors
 ///
-/// - A refusal of the first element is the result, and so is a committed refusal of a later element or separator.
+/// - The refusal of the first element is the result, and so is a committed refusal of a later element or separator.
 /// - A later turn that takes nothing is refused, committed, with the message `repetition takes nothing`, unless it ends the turns.
 /// - Faults are as for `many`.
 ///
 /// # Partial input
 ///
-/// On need of more the state keeps the collection, whether an element was parsed, whether one committed, and the running turn.
+/// On need of more the state keeps what is collected, whether an element was parsed, whether one committed, and the turn that runs.
 ///
 /// # Differences from combine
 ///
-/// If a turn takes nothing, combine loops for ever.
+/// If a turn takes nothing the crate goes round for ever.
 #[inline]
 pub fn sep_end_by1<F, P, S>(alloc: Global, parser: P, separator: S) -> SepEndBy1<F, P, S>
     ensures { result ≡ sep_end_by1_of alloc parser separator }

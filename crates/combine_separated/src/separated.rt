@@ -1,4 +1,4 @@
-//! The turns of separated repetitions and chains: first a part, and later a separator and the part.
+//! What runs in each turn: a part, and later a separator and the part.
 ghost use Rattle.std.specs.Prelude.{◌≡◌, false, true};
 ghost use Rattle.combine_base.specs.Parser.GivenValues.{GivesOnly};
 ghost use Rattle.combine_base.specs.Parser.Meaning.{MeansSame};
@@ -21,27 +21,27 @@ use std::mem;
 pub enum Element<O, V> {
     /// The first element.
     First(V),
-    /// A separator's value, and the element after it.
+    /// What a separator gave, and the element after it.
     Then(O, V),
 }
 
-/// The lead of a part: nothing, or a separator.
+/// What stands before a part.
 #[derive(Drop)]
 pub enum Lead<O> {
-    /// Nothing precedes the first part.
+    /// Nothing stands before the first part.
     Nothing,
-    /// The value of the separator before a later part, and whether that was committed.
+    /// What the separator before a later part gave, and whether that was committed.
     Separator(O, bool),
 }
 
-/// The kept state of a running turn: of a later separator, or of a part, with its lead.
+/// What is kept of a running turn: the state of a later separator, or of a part, with what stands before it.
 ///
-/// It has the part's state in one place, so that nested parts make it grow by a constant at each level.
+/// It holds the state of a part in one place, so that parts within parts make it grow by as much at each level.
 #[derive(Drop)]
 pub enum SeparatedState<O, W, U> {
-    /// A later separator runs, from this state.
+    /// A later separator runs, from that state.
     Separator(W),
-    /// A part runs, from this state.
+    /// A part runs, from that state, with what stands before it.
     Part(Lead<O>, U),
 }
 
@@ -50,7 +50,7 @@ pub enum SeparatedState<O, W, U> {
 pub enum TurnPlace<U, Z> {
     /// The first part, with its state.
     First(U),
-    /// A later separator and part, with their kept state.
+    /// A later separator and part, with what is kept of them.
     Later(Z),
 }
 
@@ -64,7 +64,7 @@ impl<O, W, U: Default> Default for SeparatedState<O, W, U> {
 }
 
 impl<O, W, U> SeparatedState<O, W, U> {
-    /// Returns which turn runs, with its kept state.
+    /// Returns which turn runs, with what is kept of it.
     #[inline(always)]
     pub fn into_place(self) -> TurnPlace<U, PairState<O, W, U>>
         ensures { result ≡ turn_place self }
@@ -80,7 +80,7 @@ impl<O, W, U> SeparatedState<O, W, U> {
         }
     }
 
-    /// Returns the kept state of a later separator and part.
+    /// Makes what is kept of a later separator and part.
     #[inline(always)]
     pub fn later(pair: PairState<O, W, U>) -> Self
         ensures { result ≡ later_kept pair }
@@ -94,16 +94,16 @@ impl<O, W, U> SeparatedState<O, W, U> {
     }
 }
 
-/// An operator of a chain, which makes one operand of two. It is a closure, a function, or a type of your own, perhaps an enum. Our own.
+/// An operator of a chain, which makes one operand of two: a closure, a function, or a type of one's own, perhaps an enum. Our own.
 ///
-/// A type of your own writes `fold_two`; it can then be called on any two operands, and nothing is known of its result. The ghost members `callable` and `answers` can specify more.
+/// A type of one's own writes `fold_two`; it can then be called on any two operands, and nothing is known of what it returns. By `callable` and `answers` it says more.
 ///
-/// It is a trait of its own so that its bound is proved in a declaration of its own, as with `Function` of `combine_base`.
+/// It stands apart so that what shows its bound stands in a declaration of its own, as with `Function` of `combine_base`.
 pub trait Folds<V> {
     /// The functions that can be called on any two operands.
     ghost callable: { Self → Type 0 } = { λ _. Unit {0} };
 
-    /// The values that it may return.
+    /// What it may return.
     ghost answers: { Self → V → V → V → Type 0 } = { λ _ _ _ _. Unit {0} };
 
     /// Makes one operand of two.
@@ -123,12 +123,12 @@ impl<V, F: FnOnce(V, V) -> V> Folds<V> for F {
     }
 }
 
-/// The condition on each value of a separator, between values of type `V`.
+/// What is asked of each value that a separator gives, between values of this type.
 pub trait Leads<O, V> {
     ghost good: { O → Type 0 };
 }
 
-/// No condition.
+/// Nothing is asked of it.
 #[derive(Drop)]
 pub struct Anything;
 
@@ -136,7 +136,7 @@ impl<O, V> Leads<O, V> for Anything {
     ghost good = { λ _. Unit {0} };
 }
 
-/// The value is a function that can be called on any two operands.
+/// It is a function that can be called on any two operands.
 #[derive(Drop)]
 pub struct ChainOperator;
 
@@ -144,7 +144,7 @@ impl<O: Folds<V> + Drop, V: Drop> Leads<O, V> for ChainOperator {
     ghost good = { λ f. O.callable f };
 }
 
-/// A part, and later a separator and the part; `L` is the condition on the separator's values.
+/// A part, and later a separator and the part, where the separator gives what `L` asks for.
 #[derive(Drop)]
 #[derive_where(Clone, Copy; P, S)]
 pub struct Separated<P, S, L> {
@@ -152,11 +152,11 @@ pub struct Separated<P, S, L> {
     pub parser: P,
     /// The parser of a separator.
     pub separator: S,
-    /// The condition on the separator's values.
+    /// What is asked of each value that the separator gives.
     pub asks: PhantomData<L>,
 }
 
-/// Returns which turn a call runs, with its state: a turn that begins, or the kept one.
+/// Returns which turn a call runs, with the state that it runs from: a turn that begins, or the one that is kept.
 #[inline(always)]
 pub fn begin_turn<O: Drop, W: Default + Drop, U: Default + Drop, M: ParseMode>(
     later: bool,
@@ -174,7 +174,7 @@ pub fn begin_turn<O: Drop, W: Default + Drop, U: Default + Drop, M: ParseMode>(
     TurnPlace::First(U::default())
 }
 
-/// Runs the first part, from its kept state.
+/// Runs the first part, from what is kept of it.
 #[inline(always)]
 fn run_first<Input: Stream, P: Parser<Input>, O: Drop, W: Drop, M: ParseMode>(
     parser: &mut P,
@@ -206,7 +206,7 @@ fn run_first<Input: Stream, P: Parser<Input>, O: Drop, W: Drop, M: ParseMode>(
     }
 }
 
-/// Runs a separator and a part, from their kept state.
+/// Runs a separator and a part, from what is kept of them.
 #[inline(always)]
 fn run_later<Input: Stream, P: Parser<Input>, S: Parser<Input>, M: ParseMode>(
     separator: &mut S,

@@ -1,4 +1,4 @@
--- the results of `then_meaning` and its kin, by those of its two parsers
+-- the answers of `then_meaning` and its kin, by those of its two parsers
 use Rattle.std.proofs.Common.{ℕ, ◌≡◌, ◌≤◌, ◌⊎◌, inl, inr, Bool, true, false, sym, ap, subst, arith}
 use Rattle.combine_base.specs.Error.Errors.{Observers}
 use Rattle.combine_base.specs.Parser.Answer.{World, CallRecord, Answers, Accepts, world}
@@ -29,7 +29,7 @@ module _ {Q K N Input A B S U Checkpoint T R P E : Type 0} (q : parser.Ghosts Q 
   abbrev pub by_some : N → Type 0
   by_some = AnsweredBySome callable answers p.lawful q.lawful q.valid q.meaning
 
-  -- a parser returned for an accepted value may be kept
+  -- what is answered for an accepted value may be kept
   pub accepted_kept : (first : Q) (k : K) → q.lawful first → GivesOnly q.valid (q.meaning first) (asks_lawful callable answers p.lawful k) → (s : S) → q.valid s → (v : View P T) (a : A) (c : Bool) → (count : ℕ) × (q.meaning first).rest s v (Accepted a count c) → (n : N) → answers k a n → KeptOf p.lawful p.meaning by_some n
   accepted_kept first k l h s d v a c x n j = record {
     is_lawful = ((h.rest s d).one v a x.0 c x.1).1 n j;
@@ -57,11 +57,11 @@ module _ {N Input V A B C S U Checkpoint T R P E : Type 0} (p : parser.Ghosts N 
   abbrev all_world : World P T (AnsweredState S V N U) E
   all_world = world i.step observers i.counts_failures (starts_first fresh)
 
-  -- a call of the first parser in its mode
+  -- a call of the first parser in its mode, and one from its state
   abbrev call_of : Bool → S → S → Input → Input → CallRecord P T S
   call_of first at stopped input mid = record { first = first; state = at; left = stopped; old = i.view input; new = i.view mid; before = i.failures input; after = i.failures mid }
 
-  -- the kept state of a returned parser that its call has changed
+  -- what is kept of an answered parser that its call has changed
   abbrev kept_with : AnsweredProgress V N U → N → U → AnsweredProgress V N U
   kept_with l n u = record { value = l.value; parser = n; committed = l.committed; state = u }
 
@@ -73,7 +73,7 @@ module _ {N Input V A B C S U Checkpoint T R P E : Type 0} (p : parser.Ghosts N 
     heapless = λ k. d.same.heapless.0 (k d.parser d.is_given);
   }
 
-  -- the state left is valid
+  -- the state that is left is valid
   pub answered_leaves_valid : ((s : S) → fresh s → valid s) → {input left : Input} {l : AnsweredProgress V N U} {state : AnsweredState S V N U} {y : ParseResult C E} → kept l.parser → CalledAnswered p i observers last_fresh fresh join input left l state y → valid_answered valid kept p.valid state
   answered_leaves_valid h {input} {left} {l} {state} {y} d g = by_need g.runs.leaves
     where
@@ -81,7 +81,7 @@ module _ {N Input V A B C S U Checkpoint T R P E : Type 0} (p : parser.Ghosts N 
       by_need (inl j) = rw j.1 (record { is_lawful = g.lawful; parser = d.parser; is_given = d.is_given; same = same_more _ _ _ d.same g.same }, j.2)
       by_need (inr j) = answered_starts_valid kept p.valid h state j.1
 
-  -- a call that resumes the returned parser
+  -- a call that begins in the answered parser
   pub then_resumes : {input left : Input} {l : AnsweredProgress V N U} {z state : AnsweredState S V N U} {y : ParseResult C E} → z ≡ Second l → kept l.parser → CalledAnswered p i observers last_fresh fresh join input left l state y → Answers all_world both (call_from z state (i.view input) (i.view left) (i.failures input) (i.failures left)) y
   then_resumes {input} {left} {l} {z} {state} {y} is d g =
       let e = ap step_of is in
@@ -92,12 +92,12 @@ module _ {N Input V A B C S U Checkpoint T R P E : Type 0} (p : parser.Ghosts N 
       runs_answer i.step observers i.counts_failures fresh step_of m second (p.meaning l.parser) last_fresh p.valid l.committed (join l.value) (kept_with l g.parser) (holds l d g.parser g.same) l.state z state old old (i.view left) before before (i.failures left) q (omega arith) (omega arith) (λ x. subst (λ k. lost_at i.step step_of m second k old) (sym e) x) y g.runs
 
   module _ (h : IsMeaning fresh valid m) where
-    -- The call begins in the first parser, which was run in this mode.
+    -- The call begins in the first parser, which was run in that mode.
     module _ {first : Bool} {z : AnsweredState S V N U} {at stopped : S} (is : z ≡ First at) (starts : first ≡ true → starts_first fresh z) {input mid : Input} where
       pub first_at_rest : {x : ParseResult A E} → Answers first_world m (call_of first at stopped input mid) x → Answers first_world m (call_of false at stopped input mid) x
       first_at_rest {x} a = at_rest first_world valid m h (call_of first at stopped input mid) (λ e. subst (starts_first fresh) is (starts e)) x a
 
-      -- an acceptance of it is one from its state
+      -- what it accepts, it accepts from its state
       pub committed_at : (a : A) → Answers first_world m (call_of first at stopped input mid) (CommitOk a) → (count : ℕ) × m.rest at (i.view input) (Accepted a count true)
       committed_at a x = let y = (first_at_rest x).is in (y.count, y.meant)
 
@@ -110,7 +110,7 @@ module _ {N Input V A B C S U Checkpoint T R P E : Type 0} (p : parser.Ghosts N 
       pub then_refuses : {t : Tracked E} {state : AnsweredState S V N U} → starts_first fresh state → Answers first_world m (call_of first at stopped input mid) (PeekErr t) → Answers all_world both (call_from z state (i.view input) (i.view mid) (i.failures input) (i.failures mid)) (PeekErr t)
       then_refuses {t} {state} d a = refused_before i.step observers i.counts_failures fresh step_of m second at stopped z state (ap step_of is) (i.view input) (i.view mid) (i.failures input) (i.failures mid) t d (first_at_rest a)
 
-      -- it was accepted, and the returned parser was run from its start
+      -- it was accepted, and the answered one was run from its beginning
       module _ (d : valid at) {a : A} {n : N} (j : answers a n) (w : kept n) (k : IsMeaning last_fresh p.valid (p.meaning n)) {u : U} (b : last_fresh u) {left : Input} {state : AnsweredState S V N U} {y : ParseResult C E} (reads : (i.failures input).reads ≤ (i.failures mid).reads) (resets : (i.failures input).resets ≤ (i.failures mid).resets) where
         goes_on : (c : Bool) → Accepts first_world m (call_of false at stopped input mid) a c → CalledAnswered p i observers last_fresh fresh join mid left (record { value = keep a; parser = n; committed = c; state = u }) state y → Answers all_world both (call_from z state (i.view input) (i.view left) (i.failures input) (i.failures left)) y
         goes_on c x g =

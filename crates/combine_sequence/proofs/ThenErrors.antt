@@ -1,4 +1,4 @@
--- the errors of refusals of `then_meaning` and its kin, by those of their two parsers
+-- the errors that `then_meaning` and its kin refuse with, by those of their two parsers
 use Rattle.std.proofs.Common.{◌≡◌, Bool, false, inl, inr, subst, true}
 use Rattle.combine_base.specs.Error.Errors.{Observers}
 use Rattle.combine_base.specs.Parser.Answer.{Accepts, Answers, world}
@@ -18,11 +18,11 @@ use Rattle.combine_sequence.specs.declared.sequence.answered.state.AnsweredState
 use Rattle.combine_sequence.specs.declared.sequence.answered.state.AnsweredState.TheVariants.{First, Second}
 
 module _ {N Input V A B C S U Checkpoint T R P E : Type 0} (p : parser.Ghosts N Input U B Checkpoint T R P E) (i : stream.Ghosts Input T R P E) (observers : Observers T R P E) (last_fresh : U → Type 0) (fresh : S → Type 0) (keep : A → V) (join : V → B → C) (answers : A → N → Type 0) (some : N → Type 0) (m : Meaning P T R E A S) where
-  -- the errors of the whole, from a state
+  -- the whole, from a state
   abbrev reasoned : AnsweredState S V N U → Input → Input → ParseResult C E → Type 0
   reasoned z input left = ReasonedCall observers (then_meaning i.step observers keep join answers some m p.meaning) false z (i.view input) (i.view left)
 
-  -- a call that resumes the returned parser
+  -- a call that begins in the answered parser
   pub resumed_reasons : {input left : Input} {l : AnsweredProgress V N U} {state : AnsweredState S V N U} {y : ParseResult C E} → CalledAnswered p i observers last_fresh fresh join input left l state y → reasoned (Second l) input left y
   resumed_reasons g k x h = runs_reasons g.runs k x h
 
@@ -34,7 +34,7 @@ module _ {N Input V A B C S U Checkpoint T R P E : Type 0} (p : parser.Ghosts N 
     pub first_peeked : {stopped : S} {t : Tracked E} → Answers (world i.step observers i.counts_failures fresh) m (call_from at stopped (i.view input) (i.view left) (i.failures input) (i.failures left)) (PeekErr t) → ReasonedCall observers m first at (i.view input) (i.view left) (PeekErr t) → reasoned (First at) input left (PeekErr t)
     first_peeked p r = reasoned_into (λ k e x. inl x) (reasoned_refusal (reasoned_meant p (reasoned_at_rest h observers starts r)))
 
-  -- the first parser was accepted, and the returned one was run from its start
+  -- and which was accepted: the answered one was run from its beginning
   pub answered_reasons : {at stopped : S} {input mid left : Input} {a : A} {c : Bool} {n : N} {value : V} {u : U} {state : AnsweredState S V N U} {y : ParseResult C E} → Accepts (world i.step observers i.counts_failures fresh) m (call_from at stopped (i.view input) (i.view mid) (i.failures input) (i.failures mid)) a c → answers a n → IsMeaning last_fresh p.valid (p.meaning n) → last_fresh u → CalledAnswered p i observers last_fresh fresh join mid left (record { value = value; parser = n; committed = c; state = u }) state y → reasoned (First at) input left y
   answered_reasons {at} {stopped} {input} {mid} {left} {a} {c} {n} {value} {u} {state} {y} w j laws b g k x h =
       let means = p.meaning n in

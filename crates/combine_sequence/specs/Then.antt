@@ -1,4 +1,4 @@
--- a parser, then one that a function of its value returns, which is kept while it runs; and the contract of a run of that parser
+-- a parser, and then one that a function of its value answers, which is kept while it runs; and what runs of that parser promise
 use Rattle.std.specs.Prelude.{ℕ, ◌≡◌, Bool, refl}
 use Rattle.combine_base.specs.Error.Errors.{Observers}
 use Rattle.combine_base.specs.Stream.View.{View}
@@ -26,7 +26,7 @@ use Rattle.combine_base.specs.declared.error.result.ParseResult.{ParseResult}
 use Rattle.combine_base.specs.declared.parser.Parser as parser
 use Rattle.combine_base.specs.declared.stream.StreamOnce as stream
 
--- the parsers of this crate, by their parts
+-- the parsers of this crate, of their parts
 abbrev pub answered_of : {Q K B : Type 0} → Q → K → Answered Q K B
 answered_of q k = record { first = q; asked = k; gives = record {} }
 
@@ -45,27 +45,27 @@ first_part p = p.first
 abbrev pub then_asker : {Q K B : Type 0} → Answered Q K B → K
 then_asker p = p.asked
 
--- the first value isn't kept, and the second is the value of both
+-- nothing is kept of the first value, and the second is the value of both
 abbrev pub forget : {A : Type 0} → A → Unit {0}
 forget a = tt
 
 abbrev pub only_last : {B : Type 0} → Unit {0} → B → B
 only_last v b = b
 
--- the first value is kept, and the pair is the value of both
+-- the first value is kept, and the pair of both is the value
 abbrev pub keep_first : {A : Type 0} → A → record { 0 : A }
 keep_first a = record { 0 = a }
 
--- which of the two parsers is running
+-- which of the two parsers runs
 abbrev pub step_of : {S V N U : Type 0} → AnsweredState S V N U → SequencePlace S (AnsweredProgress V N U)
 step_of (steps.First s) = Before s
 step_of (steps.Second l) = Last l
 
--- a default state: that of the first parser is a default one
+-- a state begins where that of the first parser does
 abbrev pub starts_first : {S V N U : Type 0} → (S → Type 0) → AnsweredState S V N U → Type 0
 starts_first fresh = begins_sequence step_of fresh
 
--- a valid state: that of the running parser is valid, and a returned parser that it keeps may be kept
+-- a state is valid where that of the running parser is, and an answered parser that it keeps is one that may be kept
 abbrev pub valid_last : {V N U : Type 0} → (N → Type 0) → (U → Type 0) → AnsweredProgress V N U → Type 0
 valid_last kept last l = kept l.parser × last l.state
 
@@ -77,12 +77,12 @@ answered_starts_valid kept last h (steps.First s) d = h s d
 answered_starts_valid kept last h (steps.Second l) d = absurd d
 
 module _ {K A N : Type 0} (callable : K → A → Type 0) (answers : K → A → N → Type 0) (lawful : N → Type 0) where
-  -- k may be called on a, and each parser that it may return then is lawful
+  -- k may be asked for a, and each parser that it may answer then is lawful
   abbrev pub asks_lawful : K → A → Type 0
   asks_lawful k a = callable k a × ((n : N) → answers k a n → lawful n)
 
   module _ {Q P T R E S : Type 0} (fit : Q → Type 0) (valid : S → Type 0) (gives : Q → Meaning P T R E A S) where
-    -- returned for a value that a first parser gives, by a function that may be called on each of its values
+    -- answered for a value that a first parser gives, by one who may be asked for each of its values
     pub record AnsweredBySome (n : N) : Type 0 where
       pub first : Q
       pub is_fit : fit first
@@ -101,14 +101,14 @@ module _ {K A N : Type 0} (callable : K → A → Type 0) (answers : K → A →
     some_lawful n h = ((h.asks.rest h.state h.is_valid).one h.view h.value h.count h.committed h.accepted).1 n h.answered
 
 module _ {P T R E A B N U : Type 0} (errors : Observers T R P E) (answers : A → N → Type 0) (means : N → Meaning P T R E B U) where
-  -- a parser that was returned for the value refused; `before` is whether the parser before it was committed
+  -- a parser that was answered for the value before it refused; before says whether something was committed to before it
   pub record RefusesAnswered (value : A) (before : Bool) (v w : View P T) (committed : Bool) (e : E) : Type 0 where
     pub parser : N
     pub is_answered : answers value parser
     pub refuses : RefusesLast errors (means parser) (refusals (means parser)) before v w committed e
 
 module _ {P T R E A V B C N U : Type 0} (errors : Observers T R P E) (keep : A → V) (join : V → B → C) (answers : A → N → Type 0) (means : N → Meaning P T R E B U) (some : N → Type 0) where
-  -- any parser that may be returned for the value; `keep` gives the kept part of the value, and `join` joins it with the second value
+  -- any parser that is answered for the value; keep is what is kept of the value, and join puts the second value to it
   abbrev pub answered_for_value : SecondPart P T E A B C (AnsweredProgress V N U)
   answered_for_value = record {
     join = λ a. join (keep a);
@@ -152,7 +152,7 @@ module _ {P T R E A V B C N U : Type 0} (errors : Observers T R P E) (keep : A �
     refuses_from = λ l v w k e. (λ x. x, λ x. x);
   }
 
--- Where the first parser is accepted, all parsers that may be returned for any of its values have one outcome by shape.
+-- Where the first parser is accepted, all parsers that may be answered for its value, whichever it is, have one outcome, but for the value.
 pub record ValueAnswersOne {P T A B N : Type 0} (r : Reading P T A) (answers : A → N → Type 0) (means : N → Reading P T B) : Type 0 where
   pub one : (v : View P T) (a a' : A) (n : ℕ) (c : Bool) → r v (Accepted a n c) → r v (Accepted a' n c) → (p p' : N) → answers a p → answers a' p' → (u : View P T) (o o' : Outcome B) → means p u o → means p' u o' → shape o ≡ shape o'
 
@@ -166,7 +166,7 @@ module _ {P T R E A V B C N U : Type 0} (step : P → T → P) (errors : Observe
   follows_one r means h = record { one = λ v a a' n c w w' u o o' x x'. h.one v a a' n c w w' x.0 x'.0 x.1 x'.1 u o o' x.2 x'.2 }
 
 module _ {P T R E A V B C N S U : Type 0} (step : P → T → P) (errors : Observers T R P E) (keep : A → V) (join : V → B → C) (answers : A → N → Type 0) (some : N → Type 0) where
-  -- the parser, then any one that may be returned for its value; `some` are those that any function of the type may return
+  -- the parser, and then any one that is answered for its value; some are those that may be answered by any function of the type
   abbrev pub then_meaning : Meaning P T R E A S → (N → Meaning P T R E B U) → Meaning P T R E C (AnsweredState S V N U)
   then_meaning m means = sequence step step_of m (answered_for_value errors keep join answers means some)
 
@@ -186,7 +186,7 @@ module _ {P T R E A V B C N S U : Type 0} (step : P → T → P) (errors : Obser
           last = λ l d. following_is_single l.committed (join l.value) ((means l.parser).rest l.state) ((means_one_as d.0.same (k d.0.parser d.0.is_given)).rest l.state d.1);
         })
 
--- A returned parser was run from its kept state. The call may change it, but not its meaning; need of more keeps the changed parser.
+-- An answered parser was run from what is kept of it. Its call may change it, not what it means; need of more keeps it as it then is.
 module _ {N Input V B C S U Checkpoint T R P E : Type 0} (p : parser.Ghosts N Input U B Checkpoint T R P E) (i : stream.Ghosts Input T R P E) (observers : Observers T R P E) (last_fresh : U → Type 0) (fresh : S → Type 0) (join : V → B → C) where
   pub record CalledAnswered (input left : Input) (from : AnsweredProgress V N U) (state : AnsweredState S V N U) (result : ParseResult C E) : Type 0 where
     pub parser : N

@@ -1,6 +1,6 @@
-//! Parsers in sequence.
+//! Parsers one after another.
 //!
-//! The tokens taken, refusals, faults, need of more, errors and states of `with`, `skip`, `between` and `struct_parser!` are those of the tuple.
+//! Of `with`, `skip`, `between` and `struct_parser!` what is taken, refusals, faults, need of more, errors and states are those of the tuple.
 ghost use Rattle.std.specs.Prelude.{◌≡◌};
 ghost use Rattle.combine_combinator.specs.CombinatorParsers.{picked_of};
 ghost use Rattle.combine_sequence.specs.Then.{then_of, then_partial_of, then_ref_of};
@@ -13,11 +13,11 @@ use answered::next_parser::{ByMut, ByRef, ByValue};
 pub use combine_combinator::combinator::map;
 use types::{Answered, Between, Skip, Then, ThenPartial, ThenRef, With};
 
-/// Parses as `p` and then as `q`, and returns the value of `q`.
+/// Parses as `p` and then as `q`, with the value of `q`.
 ///
 /// # Errors
 ///
-/// Those of the tuple `(p, q)`.
+/// They are those of the tuple `(p, q)`.
 ///
 /// # Examples
 ///
@@ -35,11 +35,11 @@ pub fn with<P, Q, B>(p: P, q: Q) -> With<P, Q, B>
     With::new((p, q))
 }
 
-/// Parses as `p` and then as `q`, and returns the value of `p`.
+/// Parses as `p` and then as `q`, with the value of `p`.
 ///
 /// # Errors
 ///
-/// Those of the tuple `(p, q)`.
+/// They are those of the tuple `(p, q)`.
 ///
 /// # Examples
 ///
@@ -58,13 +58,13 @@ pub fn skip<P, Q, A>(p: P, q: Q) -> Skip<P, Q, A>
     Skip::new((p, q))
 }
 
-/// Parses as `l`, then as `p`, then as `r`, and returns the value of `p`.
+/// Parses as `l`, then as `p`, then as `r`, with the value of `p`.
 ///
 /// It counts as one parser.
 ///
 /// # Errors
 ///
-/// Those of the tuple `(l, p, r)`.
+/// They are those of the tuple `(l, p, r)`.
 ///
 /// # Examples
 ///
@@ -82,23 +82,23 @@ pub fn between<L, R, P, A>(l: L, r: R, p: P) -> Between<L, R, P, A>
     Between::new((l, p, r))
 }
 
-/// Parses as `parser`, then as the parser that `f` returns for its value, and returns the second value.
+/// Parses as `parser`, and then as the parser that `f` returns for its value, whose value is the value of both.
 ///
 /// `f: Fn(P::Output) -> N, N: Parser<Input>`, or a `Function`.
 ///
-/// Every parser that `f` may return has to be lawful. `f` is called if `parser` is accepted. The result is committed if one of the two is.
+/// Every parser that `f` may return has to be lawful. `f` is called where `parser` is accepted. The result is committed if one of the two is.
 ///
 /// # Errors
 ///
-/// Refusals of `parser` are unchanged. After a peeked refusal the second parser is put back to where it began; the error has the unexpected item there and the items of the second parser, and is committed if the first was.
+/// What `parser` refuses is refused alike. A peeked refusal of the second is put back to where the second began, and says what stands there and what the second expects; it is committed if the first was.
 ///
 /// # Partial input
 ///
-/// On need of more the state keeps the parser that `f` returned, and the next call goes on with it.
+/// On need of more the state keeps the parser that `f` returned, and the next call goes on with that one.
 ///
 /// # Differences from combine
 ///
-/// `f` is an `Fn`; combine takes an `FnMut`.
+/// `f` is an `Fn`, where the crate takes an `FnMut`.
 ///
 /// # Examples
 ///
@@ -116,13 +116,13 @@ pub fn then<P, F, B>(parser: P, f: F) -> Then<P, F, B>
     Answered::new(parser, ByValue(f))
 }
 
-/// Parses as `then` does, with a function of a mutable reference to the value.
+/// Parses as `then` does, where the function takes a mutable reference to the value.
 ///
 /// `f: Fn(&mut P::Output) -> N, N: Parser<Input>`, or a `MutFunction`.
 ///
 /// # Differences from combine
 ///
-/// combine calls its function with the value in the state, again for each piece.
+/// The crate's hands its function the value as it stands in the state, and asks it again for each piece.
 ///
 /// # Examples
 ///
@@ -144,11 +144,11 @@ pub fn then_partial<P, F, B>(parser: P, f: F) -> ThenPartial<P, F, B>
     Answered::new(parser, ByMut(f))
 }
 
-/// Parses as `then` does, with a function of a reference to the value, and returns both values.
+/// Parses as `then` does, where the function takes a reference to the value.
 ///
 /// `f: Fn(&P::Output) -> N, N: Parser<Input>`, or a `RefFunction`.
 ///
-/// The value is the pair of the first and the second value.
+/// The value of both is the pair of both values.
 ///
 /// # Examples
 ///
@@ -170,15 +170,15 @@ pub fn then_ref<P, F, B>(parser: P, f: F) -> ThenRef<P, F, B>
     Answered::new(parser, ByRef(f))
 }
 
-/// Parses as up to eight parsers one after another, and makes a struct of their values.
+/// Parses as up to eight parsers one after another, whose values make a struct.
 ///
-/// `struct_parser!(Pair { left: p, _: q, right: r })` is `(p, q, r)` with the value `Pair { left, right }` of the values of `p` and `r`, and `struct_parser!(Pair(p, _: q, r))` is the same for a struct whose fields have no names. A part named `_` is run, and its value dropped.
+/// `struct_parser!(Pair { left: p, _: q, right: r })` is `(p, q, r)` with the value `Pair { left, right }` of the values of `p` and `r`, and `struct_parser!(Pair(p, _: q, r))` is the same of a struct whose fields have no names. A part named `_` is run, and its value let go.
 ///
-/// The call is an expression, and may be a part of another.
+/// Such a call is an expression, and may stand as a part of another.
 ///
 /// # Differences from combine
 ///
-/// Without names combine takes up to fifteen parts.
+/// Without names the crate's takes up to fifteen parts.
 ///
 /// # Examples
 ///

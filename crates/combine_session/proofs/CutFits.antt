@@ -1,4 +1,4 @@
--- cuts that fit, one after another
+-- whether cuts fit, one after another
 use Rattle.std.proofs.Common.{ℕ, zero, suc, ◌+◌, ◌<◌, ◌≤◌, ◌≡◌, ◌↔◌, List, true, false, length, get_or, arith, ap, sym, subst, refl, ⊎_elim}
 use Rattle.std.proofs.Math.Nat.{eq-or-lt_of_le}
 use Rattle.combine_session.specs.Cuts.{CutsFit}

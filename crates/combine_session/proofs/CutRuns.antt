@@ -53,7 +53,7 @@ pub window_same : {P T R A S E : Type 0} {errors : Observers T R P E} {counts_fa
 window_same {m} {m'} {s} h p = record { new = p.new; failures = p.failures; parsed = p.parsed; place = p.place; is = p.is; answers = answers_same _ m m' h _ p.parsed p.answers; refuses = λ k e i. (h.refuses_from s _ _ k e).1 (p.refuses k e i) }
 
 module _ {P T R E A S : Type 0} (errors : Observers T R P E) (step : P → T → P) (start : P) (m : Meaning P T R E A S) (whole : List T) (number : ℕ) (at : ℕ → ℕ) where
-  -- more was needed at each of the first i cuts
+  -- more was asked for at each of the first i cuts
   pub record AskedAtCuts (s : S) (t i : ℕ) : Type 0 where
     pub reached : WindowReached errors step start m whole s t (last_cut at i)
     pub asked : (j : ℕ) → j < i → on errors step start m (take (at j) whole) true Undecided
@@ -70,7 +70,7 @@ module _ {P T R E A S : Type 0} (errors : Observers T R P E) (step : P → T →
   }
 
   module _ (law : IsReading m.whole) (fit : PlacesFit (length whole) number at) where
-    -- a decision before a cut holds later too
+    -- what is decided before a cut stays so
     stays : (c : ℕ) (b : Bool) (d : ℕ) (o : Outcome A) → c ≤ d → IsDecided o → on errors step start m (take c whole) true o → on errors step start m (take d whole) b o
     stays c b d o h k p =
         let e = sym (take-append-drop c (take d whole)) ∙ ap (λ us. us ++ drop c (take d whole)) (take-take c d whole h) in
@@ -122,7 +122,7 @@ module _ {P T R E A S : Type 0} (errors : Observers T R P E) (step : P → T →
             let r : n ≤ length whole = omega arith in
             answered (answers.Refused e n k) (Refused k) (λ x. (x, q.2)) r tt q.0
 
-        -- n windows needed more, one at each cut before this one
+        -- n windows asked, one at each cut before this one
         pub decided_at_cut : (n : ℕ) → n ≡ i → (a : Answer A E) (r : Result (Answer A E) Kind) → a ≢ answers.More → r ≡ Ok a → Parsed r → RunsCuts errors step start m whole number at (Ok (n, a))
         decided_at_cut n c a r d e p = record { is = subst (λ j. DecidedAfterCuts errors step start m whole number at j a) (sym c) (decided_here a d (subst Parsed e p)) }
 
@@ -139,7 +139,7 @@ module _ {P T R E A S : Type 0} (errors : Observers T R P E) (step : P → T →
               asked = λ j k. ⊎_elim (λ z. subst (λ n. on errors step start m (take (at n) whole) true Undecided) (sym z) q.1) (far.asked j) (eq-or-lt_of_le (let w : j ≤ i = omega arith in w));
             }
 
-    -- the last window, after the first i cuts
+    -- the last window, behind the first i cuts
     module _ (s : S) (t i : ℕ) (l : i ≤ number) (far : AskedAtCuts s t i) where
       pub fits_last : t ≤ length whole
       fits_last = let a = far.reached.before in let b = last_within (length whole) number at fit i l in omega arith
@@ -154,7 +154,7 @@ module _ {P T R E A S : Type 0} (errors : Observers T R P E) (step : P → T →
         pub ends_by : (k : Kind) (r : Result (Answer A E) Kind) → r ≡ Err k → Ended r → RunsCuts errors step start m whole number at (Err k)
         ends_by k r e p = record { is = window_judged errors step start m whole s t (length whole) there counts_failures fresh left false taken (Err k) (subst Ended e p) }
 
-        -- all cuts were passed
+        -- all cuts were gone through
         module _ (all : i ≡ number) where
           all_asked : (a : Answer A E) → decided errors step start m whole a → refused_within whole a → DecidedAfterCuts errors step start m whole number at i a
           all_asked a d r = record { answer = d; refused = r; within = l; here = far.asked; only = λ z j k u. omega arith }
@@ -166,11 +166,11 @@ module _ {P T R E A S : Type 0} (errors : Observers T R P E) (step : P → T →
               let q = window_judged errors step start m whole s t (length whole) there counts_failures fresh left false taken _ p in
               all_asked (answers.Refused e n k) (decides (Refused k) (on_all false (Refused k) q.0), q.2) q.1
 
-          -- n windows needed more, as many as there are cuts
+          -- n windows asked, as many as there are cuts
           pub decided_after_cuts : (n : ℕ) → n ≡ i → (a : Answer A E) (r : Result (Answer A E) Kind) → r ≡ Ok a → Ended r → RunsCuts errors step start m whole number at (Ok (n, a))
           decided_after_cuts n c a r e p = record { is = subst (λ j. DecidedAfterCuts errors step start m whole number at j a) (sym c) (decided_there a (subst Ended e p)) }
 
--- places that fit also fit in tokens
+-- places that fit are so in tokens
 pub fits_in_tokens : (size : ℕ) (is_place : ℕ → Type 0) (index : ℕ → ℕ) (cuts : List ℕ) → ((c d : ℕ) → is_place c → is_place d → c ≤ d → (index c ≤ index d) × (index d ≤ size)) → places.CutsFit is_place cuts → PlacesFit size (length cuts) (λ i. index (get_or cuts i 0))
 fits_in_tokens size is_place index cuts rises f = record {
   rising = λ i h. (rises (get_or cuts i 0) (get_or cuts (i + 1) 0) (f.placed i (omega arith)) (f.placed (i + 1) h) (f.rising i h)).0;

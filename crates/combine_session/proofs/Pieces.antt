@@ -29,20 +29,20 @@ module _ {T : Type 0} where
   pub concatenated_more : (fed : List (List T)) (piece : List T) → concatenated (fed ++ piece ∷ []) ≡ concatenated fed ++ piece
   concatenated_more fed piece = concatenated_append fed (piece ∷ []) ∙ ap (λ z. concatenated fed ++ z) (append-nil piece)
 
-  -- the tokens that further pieces add after the first
+  -- what further pieces put behind the first
   joined_rest : (fed rest : List (List T)) (i : ℕ) → length fed ≤ i → concatenated (take i (fed ++ rest)) ≡ concatenated fed ++ concatenated (take (i - length fed) rest)
   joined_rest fed rest i h =
       let e : i ≡ length fed + (i - length fed) = omega arith in
       ap (λ n. concatenated (take n (fed ++ rest))) e ∙ ap concatenated (take-append-add fed rest (i - length fed)) ∙ concatenated_append fed (take (i - length fed) rest)
 
 module _ {P T R E A S : Type 0} (meaning : P → Meaning ℕ T R E A S) (m : Meaning ℕ T R E A S) where
-  -- a session that was fed these pieces, and needed more after each
+  -- a session that was fed these pieces, and asked for more after each
   pub record AskedAfterPieces (fed : List (List T)) (c : Course P T S) : Type 0 where
-    -- whatever follows, each outcome of the rest is one on all tokens
+    -- whatever follows, each outcome of what is left is one on all tokens
     pub left : (x : List T) (b : Bool) (o : Outcome A) → left_of_session meaning c x b o → on m.whole (concatenated fed ++ x) b o
     pub asked : (i : ℕ) → i < length fed → undecided_at m.whole fed i
     pub stage : c.stage ≡ stages.Running
-    -- the unread tokens follow those that were taken
+    -- what is unread is what follows the tokens that were taken
     pub within : c.seen.position ≤ length (concatenated fed)
     pub unread : c.seen.unread ≡ drop c.seen.position (concatenated fed)
     pub kept : m.keeps → c.seen.unread ≡ []
@@ -55,14 +55,14 @@ module _ {P T R E A S : Type 0} (meaning : P → Meaning ℕ T R E A S) (m : Mea
     here : (o : Outcome A) → left_of_session meaning c piece true o → on m.whole (concatenated now) true o
     here o h = subst (λ z. on m.whole z true o) (sym (concatenated_more fed piece)) (far.left piece true o h)
 
-    -- the number of tokens fed before
+    -- how many tokens were fed before
     count : c.seen.position + length c.seen.unread ≡ length (concatenated fed)
     count = let a = far.within in let b = ap length far.unread in omega (arith, length-drop c.seen.position (concatenated fed))
 
     all_unread : c.seen.unread ++ piece ≡ drop c.seen.position (concatenated now)
     all_unread = ap (λ us. us ++ piece) far.unread ∙ sym (drop-append-le c.seen.position (concatenated fed) piece far.within) ∙ ap (drop c.seen.position) (sym (concatenated_more fed piece))
 
-    -- after a parse of the piece, the unread tokens follow those that were taken
+    -- after a parse of the piece, what is unread is what follows the tokens that were taken
     module _ (l : session.LeavesUnread meaning valid c new piece true) where
       left_within : new.seen.position ≤ length (concatenated now)
       left_within =
@@ -83,7 +83,7 @@ module _ {P T R E A S : Type 0} (meaning : P → Meaning ℕ T R E A S) (m : Mea
     pub limit_stays : Feeds meaning valid c new piece true (Ok answers.More) → new.limit ≡ c.limit
     limit_stays h = (fed_now _ h).1.limit
 
-    -- the session needed more after this piece
+    -- the session asked for more after this piece
     pub asked_after_piece : Feeds meaning valid c new piece true (Ok answers.More) → AskedAfterPieces now new
     asked_after_piece h =
         let p = (fed_now _ h).1 in
@@ -110,7 +110,7 @@ module _ {P T R E A S : Type 0} (meaning : P → Meaning ℕ T R E A S) (m : Mea
       abbrev whole : List (List T)
       whole = now ++ rest
 
-      -- a decision at the end of this piece holds with more pieces too
+      -- what is decided at the end of this piece is so with more pieces too
       stays : (o : Outcome A) → IsDecided o → on m.whole (concatenated now) true o → (x : List T) (b : Bool) → on m.whole (concatenated now ++ x) b o
       stays o d h x b = law.stays (record { position = 0; unread = concatenated now; is_open = true }) x b o refl d h
 
@@ -146,7 +146,7 @@ module _ {P T R E A S : Type 0} (meaning : P → Meaning ℕ T R E A S) (m : Mea
       answered : (a : Answer A UnexpectedParse) (o : Outcome A) → (Decides m.whole (concatenated whole) o → decides m.whole (concatenated whole) a) → IsDecided o → left_of_session meaning c piece true o → Decided m.whole whole (length fed) a
       answered a o f d h = record { answer = f (decided_on_all o d (here o h)); asked = asked_before o d (here o h) }
 
-      -- the session decided at this piece, and the decision holds whatever pieces follow
+      -- the session decided at this piece, and so it is whatever pieces follow
       pub decided_at_piece : (a : Answer A UnexpectedParse) → a ≢ answers.More → Feeds meaning valid c new piece true (Ok a) → Decided m.whole whole (length fed) a
       decided_at_piece answers.More d h = absurd (d refl)
       decided_at_piece (answers.Accepted v t k) d h = answered (answers.Accepted v t k) (Accepted v t k) (λ x. x) tt (fed_now _ h).1.is.means.is
@@ -191,7 +191,7 @@ open_kind kinds.Read h = h
 open_kind kinds.Reset h = h
 open_kind kinds.Lost h = h
 
--- in a loop over the pieces, the first n of which were fed
+-- in a loop over the pieces, of which the first n were fed
 module _ {P T R E A S : Type 0} (meaning : P → Meaning ℕ T R E A S) (m : Meaning ℕ T R E A S) (valid : S → Type 0) (pieces : List (List T)) (n : ℕ) (c : Course P T S) (far : AskedAfterPieces meaning m (take n pieces) c) where
   module _ (piece : List T) (within : n < length pieces) (at : get_or pieces n piece ≡ piece) (new : Course P T S) where
     next : take n pieces ++ piece ∷ [] ≡ take (n + 1) pieces
@@ -209,7 +209,7 @@ module _ {P T R E A S : Type 0} (meaning : P → Meaning ℕ T R E A S) (m : Mea
         let e = length-take-le n pieces (omega arith) in
         subst (λ xs. Decided m.whole xs n a) all (subst (λ i. Decided m.whole ((take n pieces ++ piece ∷ []) ++ drop (n + 1) pieces) i a) e s)
 
-    -- the tokens fed to a session are no more than all pieces
+    -- what a session is fed is no more than all pieces
     pub no_longer : c.seen.position + length c.seen.unread + length piece ≤ length (concatenated pieces)
     no_longer =
         let fed = take n pieces in
@@ -220,13 +220,13 @@ module _ {P T R E A S : Type 0} (meaning : P → Meaning ℕ T R E A S) (m : Mea
         let taken = far.within in
         omega (arith, length-drop c.seen.position (concatenated fed))
 
-    -- a refusal on an open list is of kind `Refused`
+    -- what is refused on an open list is of kind `Refused`
     kind_at : (a : Answer A UnexpectedParse) → Feeds meaning valid c new piece true (Ok a) → refusal_kind a
     kind_at answers.More h = tt
     kind_at (answers.Accepted v t k) h = tt
     kind_at (answers.Refused e t k) h = open_kind e.0 (fed_now meaning m valid (take n pieces) c far piece new _ h).1.is.kind
 
-    -- the tokens that a refusal counts were fed
+    -- what a refusal counts was fed
     refused_at : (a : Answer A UnexpectedParse) → Feeds meaning valid c new piece true (Ok a) → refused_within (concatenated pieces) a
     refused_at answers.More h = tt
     refused_at (answers.Accepted v t k) h = tt
@@ -239,11 +239,11 @@ module _ {P T R E A S : Type 0} (meaning : P → Meaning ℕ T R E A S) (m : Mea
         let r : t ≤ length (concatenated pieces) = omega (arith, length-append c.seen.unread piece) in
         r
 
-    -- the result of all pieces, if the session decided at this one
+    -- the answer to all pieces, where the session decided at this one
     pub decides_at : IsReading m.whole → (a : Answer A UnexpectedParse) → a ≢ answers.More → Feeds meaning valid c new piece true (Ok a) → ParsesPieces m.whole m.heapless pieces (Ok a)
     decides_at law a d h = record { is = record { answer = (stops_at law a d h).answer; kind = kind_at a h; refused = refused_at a h } }
 
-    -- the reason why there is none, if it failed at this one and had no limit
+    -- why there is none, where it failed at this one and had no limit
     pub fails_at_piece : c.limit ≡ None → (e : SessionError) → Feeds meaning valid c new piece true (Err e) → ParsesPieces m.whole m.heapless pieces (Err e)
     fails_at_piece none errors.Memory h = record { is = tt }
     fails_at_piece none (errors.Fault k) h = let f = (fed_now meaning m valid (take n pieces) c far piece new _ h).1.is in record { is = (f.memory, λ l. f.wanted (far.same.heapless.0 l)) }
@@ -276,7 +276,7 @@ module _ {P T R E A S : Type 0} (meaning : P → Meaning ℕ T R E A S) (m : Mea
         let r : t ≤ length (concatenated pieces) = omega (arith, length-append c.seen.unread [], length-drop c.seen.position (concatenated pieces)) in
         r
 
-    -- the result at the end
+    -- the answer at the end
     pub answers_at_end : (r : Result (Answer A UnexpectedParse) SessionError) → EndsSession meaning valid c new [] false r → ParsesPieces m.whole m.heapless pieces r
     answers_at_end (Ok a) h = record { is = record { answer = (decided_after_pieces a h).answer; kind = kind_at_end a h; refused = refused_at_end a h } }
     answers_at_end (Err errors.Memory) h = record { is = tt }

@@ -33,7 +33,7 @@ taken_count n old new t =
 pub extended_twice : {T : Type 0} (x y : List T) (m b : Bool) (v : View ℕ T) → extended x m (extended y b v) ≡ extended (y ++ x) m v
 extended_twice x y m b v = ap (λ us. record { position = v.position; unread = us; is_open = m }) (append_assoc v.unread y x)
 
--- the outcomes of a single reading have one shape, with the tokens taken before counted too
+-- the outcomes of a single reading have one shape, the tokens taken before counted_from_start in
 counted_shape : {T A : Type 0} (r : Reading ℕ T A) (v : View ℕ T) (o p : Outcome A) → IsSingle r → counted_from_start r v o → counted_from_start r v p → shape p ≡ shape o
 counted_shape r v o p h a b =
     let e = h.one v b.0 a.0 b.2 a.2 in
@@ -113,7 +113,7 @@ module _ {P T R A S : Type 0} (fresh : S → Type 0) (meaning : P → Meaning �
         subst (λ b. session.parsed_piece meaning valid old new piece more (answer_to_error e b new.seen.position e.0)) (sym i) (failing e e.0 refl h.is)
     parsed (PeekErr t) h = peeking t.error t.error.0 refl h.is
 
-  -- the result of a parser on the unread tokens and the piece, as a session's result
+  -- what a parser answered on the piece behind the unread tokens, as the session answers it
   pub session_judged : valid old.state → MeansSame (meaning old.parser) (meaning new.parser) → (piece : List T) (more : Bool) (v : View ℕ T) → v ≡ extended piece more old.seen → ((meaning old.parser).lost old.state v → ⊥) → (r : ParseResult A UnexpectedParse) → Answers (over_fed fresh) (meaning old.parser) (run v) r → (n : ℕ) (answer : Result (Answer A UnexpectedParse) Kind) → n ≡ new.seen.position → answer ≡ answer_to (λ e. e.0) new.seen.is_open n r → new.stage ≡ stage_after answer → new.limit ≡ old.limit → session.ParsesPiece meaning valid old new piece more answer
   session_judged is_valid same piece more v e found r h n answer at is stage limit =
       let lost = subst (λ v. (meaning old.parser).lost old.state v → ⊥) e found in
@@ -154,7 +154,7 @@ passed P (Ok a) r e f g = subst P (sym e) (f a refl)
 passed P (Err k) (Ok a) e f g = absurd e
 passed P (Err k) (Err d) e f g = subst (λ x. P (Err x)) (sym e) (g k refl)
 
--- a session continues only if it is neither decided nor failed
+-- a session goes on only where it is neither decided nor failed
 pub session_runs : (s : Stage) (u : Unit {0}) → session.checked_stage s ≡ Ok u → s ≡ stages.Running
 session_runs stages.Running u e = refl
 session_runs stages.Decided u e = absurd (cc)
@@ -173,7 +173,7 @@ module _ {P T R E A S : Type 0} (meaning : P → Meaning ℕ T R E A S) (valid :
         (passed (session.feeds_session meaning valid old new piece true) parsed r e (λ a i. (fits, subst (session.ParsesPiece meaning valid old new piece true) i h)) (λ k i. (fits, subst (session.ParsesPiece meaning valid old new piece true) i h)));
   }
 
--- the unread tokens are no more than they were with the piece, and none if the parser keeps
+-- what is unread is no longer than it was with the piece, and nothing where the parser keeps
 module _ {P T R E A S : Type 0} (meaning : P → Meaning ℕ T R E A S) (valid : S → Type 0) (old new : Course P T S) (piece : List T) (more : Bool) where
   few_left : session.LeavesUnread meaning valid old new piece more → length new.seen.unread ≤ length old.seen.unread + length piece
   few_left h = let e = ap length h.unread in omega (arith, length-drop h.count (old.seen.unread ++ piece), length-append old.seen.unread piece)
@@ -216,7 +216,7 @@ module _ {P T R E A S : Type 0} (meaning : P → Meaning ℕ T R E A S) (valid :
       let there = passed ends parsed r e (λ a i. subst parses i h) (λ k i. subst parses i h) in
       record { is = unless_failed r old.stage going (record { begun = begun; begins = begins; fits = fits; parses = there }) }
 
-  -- if the list was open, the session that begins is fed the unread tokens
+  -- where the list was open, the session that begins is fed what was unread
   pub feeds_anew : (r : Result (Answer A UnexpectedParse) SessionError) (h : session.Anew meaning valid determined p old new r) → old.seen.is_open ≡ true → session.Feeds meaning valid h.begun new old.seen.unread true r
   feeds_anew r h is_open = record {
     is = subst (λ s. session.by_stage meaning valid h.begun new old.seen.unread true (session.feeds_session meaning valid h.begun new old.seen.unread true) s r) (sym h.begins.stage) (fed r (subst (λ b. session.ends_session meaning valid h.begun new old.seen.unread b r) is_open h.parses));
@@ -238,7 +238,7 @@ module _ {P T R E A S : Type 0} (meaning : P → Meaning ℕ T R E A S) (valid :
       fed (Err errors.Closed) e = absurd e
       fed (Err errors.Failed) e = absurd e
 
--- a piece for which there was room is after the unread tokens
+-- a piece that found room stands behind the unread tokens
 pub fed_ok : {T E : Type 0} (old new : View ℕ T) (piece : List T) (r : Result Unit E) → FeedsPiece old new piece r → is_err r ≡ false → old.is_open ≡ true → new ≡ extended piece true old
 fed_ok old new piece (Ok u) h e is_open = h ∙ ap (λ b. extended piece b old) is_open
 fed_ok old new piece (Err x) h e is_open = absurd (cc)

@@ -68,7 +68,7 @@ module _ {P T R A S E : Type 0} (w : World P T S E) (m : Meaning P T R E A S) (r
       omega (arith, length-drop t.0 r.old.unread)
 
 module _ {P T R E A S : Type 0} (errors : Observers T R P E) (step : P → T → P) (start : P) (m : Meaning P T R E A S) (whole : List T) where
-  -- the place t before the cut c, with a kept state: the rest there means what the whole does
+  -- the place t before the cut c, with a kept state: what is left there means what the whole does
   pub record WindowReached (s : S) (t c : ℕ) : Type 0 where
     pub before : t ≤ c
     pub within : c ≤ length whole
@@ -76,7 +76,7 @@ module _ {P T R E A S : Type 0} (errors : Observers T R P E) (step : P → T →
     pub found : (x : List T) (b : Bool) → m.lost s (extended x b (window_at step start whole t c true)) → ⊥
 
   module _ (c d : ℕ) (h : c ≤ d) where
-    -- the tokens between two cuts
+    -- what lies between two cuts
     abbrev between : List T
     between = drop c (take d whole)
 
@@ -131,7 +131,7 @@ module _ {P T R E A S : Type 0} (errors : Observers T R P E) (step : P → T →
           let i = r.before in
           omega arith
 
-      -- the call needed more: it has come to a later place before the same cut
+      -- the call asked for more: it has come to a later place before the same cut
       asked : (taken : ℕ) → taken + length new.unread ≡ c → Asks around m run → WindowReached left taken c
       asked taken e p =
           let n = place_after p.count taken p.taken e in
@@ -148,7 +148,7 @@ module _ {P T R E A S : Type 0} (errors : Observers T R P E) (step : P → T →
           }
 
       module _ (taken : ℕ) (e : taken + length new.unread ≡ c) where
-        -- the result of one window
+        -- what one window answers
         abbrev pub IsWindowAnswer : Result (Answer A E) Kind → Type 0
         IsWindowAnswer (Ok answers.More) = (more ≡ true) × on errors step start m (take c whole) more Undecided × WindowReached left taken c
         IsWindowAnswer (Ok (answers.Accepted value n committed)) = on errors step start m (take c whole) more (Accepted value n committed)
@@ -190,7 +190,7 @@ module _ {P T R E A S : Type 0} (errors : Observers T R P E) (step : P → T →
     pub window_judged : (counts_failures : Type 0) (fresh : S → Type 0) (left : S) (more : Bool) (taken : ℕ) (result : Result (Answer A E) Kind) (p : ParsesWindow errors counts_failures step fresh start m s left whole t c more taken result) → IsWindowAnswer counts_failures fresh left more p.new p.failures taken p.place result
     window_judged counts_failures fresh left more taken result p = subst (IsWindowAnswer counts_failures fresh left more p.new p.failures taken p.place) (sym p.is) (judging counts_failures fresh left more p.new p.failures taken p.place p.parsed p.answers p.refuses)
 
--- a window, by the position after the tokens before it
+-- a window, by the position behind what stands before it
 pub widened : {P T : Type 0} (step : P → T → P) (start : P) (whole : List T) (from to index : ℕ) (more : Bool) (old : View P T) (position behind : P) → old ≡ record { position = position; unread = drop index (take to whole); is_open = more } → position ≡ behind → index ≡ from → from ≤ to → after_all step start (take from whole) ≡ behind → old ≡ window_at step start whole from to more
 widened step start whole from to index more old position behind e p i l b =
     let a = ap (after_all step start) (take-take from to whole l) ∙ b in
@@ -206,7 +206,7 @@ pub record IsLaterPlace {P T : Type 0} (step : P → T → P) (start : P) (whole
   pub is_open : new.is_open ≡ more
   pub left : k + length new.unread ≡ to
 
--- the place where a call on a window leaves the stream
+-- where a call on a window leaves the stream
 pub window_left : {P T R A S E : Type 0} (w : World P T S E) (m : Meaning P T R E A S) (r : CallRecord P T S) (start : P) (whole : List T) (from to : ℕ) (more : Bool) (result : ParseResult A E) → r.old ≡ window_at w.step start whole from to more → to ≤ length whole → from ≤ to → Answers w m r result → (k : ℕ) × IsLaterPlace w.step start whole from to more r.new k
 window_left w m r start whole from to more result e h l p =
     let some = some_taken w m r result p in

@@ -1,4 +1,4 @@
--- the contract of parsing a list window by window
+-- what parsing a list window by window promises
 use Rattle.std.specs.Prelude.{ℕ, ◌+◌, ◌<◌, ◌≤◌, ◌≡◌, List, Bool, true, false, length, take, get_or, Result, Ok, Err}
 use Rattle.combine_base.specs.Stream.View.{View, advanced}
 use Rattle.combine_base.specs.Parser.Outcome.{Outcome, Accepted, Refused, Undecided, shape}
@@ -16,7 +16,7 @@ use Rattle.combine_base.specs.declared.parser.answer.Answer.{Answer}
 use Rattle.combine_base.specs.declared.parser.answer.Answer.TheVariants as answers
 use Rattle.combine_base.specs.declared.stream.StreamOnce as stream
 
--- the cuts never decrease, and each is a place
+-- cuts don't fall, and each is a place
 pub record CutsFit (is_place : ℕ → Type 0) (cuts : List ℕ) : Type 0 where
   pub rising : (i : ℕ) → i + 1 < length cuts → get_or cuts i 0 ≤ get_or cuts (i + 1) 0
   pub placed : (i : ℕ) → i < length cuts → is_place (get_or cuts i 0)
@@ -35,7 +35,7 @@ module _ {P T R E Value State : Type 0} (errors : Observers T R P E) (step : P �
   abbrev pub on : List T → Bool → Outcome Value → Type 0
   on x more = m.whole (record { position = start; unread = x; is_open = more })
 
-  -- on these tokens, ended, this is an outcome, and if there is only one, none has another shape
+  -- on these tokens, ended, this is an outcome, and where there is only one, none has another shape
   pub record Decides (x : List T) (o : Outcome Value) : Type 0 where
     pub is : on x false o
     pub only : IsSingle m.whole → (p : Outcome Value) → on x false p → shape p ≡ shape o
@@ -56,7 +56,7 @@ module _ {P T R E Value State : Type 0} (errors : Observers T R P E) (step : P �
   decided x (answers.Refused error taken committed) = Decides x (Refused committed) × RefusesWindow x error committed
 
   module _ (whole : List T) (number : ℕ) (at : ℕ → ℕ) where
-    -- There are so many cuts, each after so many tokens. The result is one on the whole, and more was needed at the first n cuts: before each of them it is undecided, and if there is only one outcome, before no other.
+    -- There are so many cuts, each behind so many tokens. The answer is one on the whole, and more was asked for at the first n cuts: before each of them it is undecided, and where there is only one outcome, before no other.
     pub record DecidedAfterCuts (n : ℕ) (a : Answer Value E) : Type 0 where
       pub answer : decided whole a
       pub refused : refused_within whole a
@@ -81,6 +81,6 @@ pub record ParsesWindow {P T R Value State E : Type 0} (errors : Observers T R P
   pub answers : Answers (world step errors counts_failures fresh) m (record { first = false; state = state; left = left; old = window_at step start whole from to more; new = new; before = failures; after = failures }) parsed
   pub refuses : ReasonedCall errors m false state (window_at step start whole from to more) new parsed
 
--- the same by the stream of the window
+-- the same by the stream that a window is
 abbrev pub WindowCall : {Input P T R Value State E : Type 0} (i : stream.Ghosts Input T R P E) (observers : Observers T R P E) (fresh : State → Type 0) (start : P) (m : Meaning P T R E Value State) (state left : State) (whole : List T) (from to : ℕ) (more : Bool) (taken : ℕ) → Result (Answer Value E) Kind → Type 0
 WindowCall i observers = ParsesWindow observers i.counts_failures i.step

@@ -1,4 +1,4 @@
--- the contract of feeding a list of pieces and then the end
+-- what feeding a list of pieces and then the end promises
 use Rattle.std.specs.Prelude.{ℕ, ◌+◌, ◌^◌, ◌<◌, ◌≤◌, ◌≡◌, List, [], ◌∷◌, ◌++◌, Bool, true, false, length, take, Result, Ok, Err}
 use Rattle.combine_base.specs.Parser.Outcome.{Outcome, Accepted, Refused, Undecided, IsDecided, shape}
 use Rattle.combine_base.specs.Parser.Meaning.{Reading, IsSingle}
@@ -20,7 +20,7 @@ module _ {Token Value : Type 0} (r : Reading ℕ Token Value) where
   abbrev pub on : List Token → Bool → Outcome Value → Type 0
   on x is_open = r (record { position = 0; unread = x; is_open = is_open })
 
-  -- on these tokens, ended, this is an outcome, and if there is only one, none has another shape
+  -- on these tokens, ended, this is an outcome, and where there is only one, none has another shape
   pub record Decides (x : List Token) (o : Outcome Value) : Type 0 where
     pub is : on x false o
     pub only : IsSingle r → (p : Outcome Value) → on x false p → shape p ≡ shape o
@@ -35,14 +35,14 @@ module _ {Token Value : Type 0} (r : Reading ℕ Token Value) where
     abbrev pub undecided_at : ℕ → Type 0
     undecided_at i = on (concatenated (take (i + 1) pieces)) true Undecided
 
-    -- More is needed after the first n pieces: it is undecided at their ends, and if there is only one outcome, at no other's. If a piece follows them, it is decided at the end of that.
+    -- More is asked for after the first n pieces: it is undecided at their ends, and where there is only one outcome, at no other's. Where a piece follows them, it is decided at the end of that.
     pub record AsksAfterFirst (n : ℕ) : Type 0 where
       pub within : n ≤ length pieces
       pub here : (i : ℕ) → i < n → undecided_at i
       pub only : IsSingle r → (i : ℕ) → i < length pieces → undecided_at i → i < n
       pub stopped : n < length pieces → (o : Outcome Value) × IsDecided o × on (concatenated (take (n + 1) pieces)) true o
 
-    -- the result is one on all pieces, and more was needed after the first n
+    -- the answer is one on all pieces, and more was asked for after the first n
     pub record Decided {E : Type 0} (n : ℕ) (a : Answer Value E) : Type 0 where
       pub answer : decides (concatenated pieces) a
       pub asked : AsksAfterFirst n
@@ -59,14 +59,14 @@ refused_within x answers.More = Unit {0}
 refused_within x (answers.Accepted value taken committed) = Unit {0}
 refused_within x (answers.Refused error taken committed) = taken ≤ length x
 
--- the result is an outcome on these tokens, ended, with a number of tokens and a kind of error that it may have
+-- the answer is an outcome on these tokens, ended, and says no more tokens and no other error than it may
 pub record AnswersWhole {Token Value : Type 0} (r : Reading ℕ Token Value) (x : List Token) (a : Answer Value UnexpectedParse) : Type 0 where
   pub answer : decides r x a
   pub kind : refusal_kind a
   pub refused : refused_within x a
 
 module _ {Token Value : Type 0} (r : Reading ℕ Token Value) (heapless : Type 0) (pieces : List (List Token)) where
-  -- the result is an outcome on all pieces concatenated, ended; or out of memory, or more than 2^64 - 1 tokens
+  -- the answer is an outcome on all pieces concatenated, ended; or there was no memory, or more than 2^64 - 1 tokens
   abbrev pub parses_pieces : Result (Answer Value UnexpectedParse) SessionError → Type 0
   parses_pieces (Ok a) = AnswersWhole r (concatenated pieces) a
   parses_pieces (Err errors.Memory) = Unit {0}

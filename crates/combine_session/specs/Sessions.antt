@@ -1,4 +1,4 @@
--- a session as contracts see it, and the contracts of its calls
+-- what a session is seen as, and what its calls promise
 use Rattle.std.specs.Prelude.{ℕ, Option, Some, None, not, nat_lt, ◌⊎◌, ◌+◌, ◌^◌, ◌<◌, ◌≤◌, ◌≡◌, ◌↔◌, List, [], ◌++◌, Bool, true, false, length, drop, Result, Ok, Err, MatchResult, IsErrAnd}
 use Rattle.combine_base.specs.Stream.View.{View, extended}
 use Rattle.combine_base.specs.Parser.Outcome.{Outcome, Accepted, Refused, Undecided, after, shape}
@@ -17,13 +17,13 @@ use Rattle.combine_session.specs.declared.session.SessionError.TheVariants as er
 use Rattle.combine_session.specs.declared.session.Stage.{Stage}
 use Rattle.combine_session.specs.declared.session.Stage.TheVariants as stages
 
--- the state of a session
+-- how far a session has come
 pub record Course (Parser Token State : Type 0) : Type 0 where
   pub parser : Parser
   pub state : State
   pub seen : View ℕ Token
   pub stage : Stage
-  -- the number of tokens that may be unread, if it is limited
+  -- how many tokens may be unread, if that is limited
   pub limit : Option ℕ
 
 abbrev pub course_of : {Parser Token State : Type 0} → Parser → State → Stream Token → Stage → Option ℕ → Course Parser Token State
@@ -34,7 +34,7 @@ abbrev pub admits : Option ℕ → ℕ → Bool
 admits None n = true
 admits (Some most) n = not (nat_lt most n)
 
--- the result of a session, by its parser's result and the stream after it
+-- what a parser answered that left its stream so, as a session answers it
 abbrev pub session_answer : {Token Value : Type 0} → View ℕ Token → ParseResult Value UnexpectedParse → Result (Answer Value UnexpectedParse) Kind
 session_answer v parsed = answer_to (λ e. e.0) v.is_open v.position parsed
 
@@ -45,26 +45,26 @@ stage_after (Ok (answers.Accepted value taken committed)) = stages.Decided
 stage_after (Ok (answers.Refused error taken committed)) = stages.Decided
 stage_after (Err k) = stages.Failed
 
--- a result, or a fault as a session's
+-- an answer, or a fault as a session's
 abbrev pub IsSessionResult : {A : Type 0} → Result A Kind → Result A SessionError → Type 0
 IsSessionResult parsed r = MatchResult parsed (λ a. r ≡ Ok a) (λ k. IsErrAnd r (λ e. e ≡ errors.Fault k))
 
--- the result of a call after a decision or a fault, if any
+-- what a call answers that comes after a decision or a fault
 abbrev pub checked_stage : Stage → Result Unit SessionError
 checked_stage stages.Running = Ok tt
 checked_stage stages.Decided = Err errors.Closed
 checked_stage stages.Failed = Err errors.Failed
 
--- the reading, with the tokens taken before the view counted too
+-- the reading, with the tokens that were taken before the view counted_from_start in
 abbrev pub counted_from_start : {Token Value : Type 0} → Reading ℕ Token Value → Reading ℕ Token Value
 counted_from_start {Token} {Value} r v o = (p : Outcome Value) × (o ≡ after v.position false p) × r v p
 
 module _ {Parser Token Range Error Value State : Type 0} (meaning : Parser → Meaning ℕ Token Range Error Value State) where
-  -- the rest of a session: the outcomes after these further tokens, open or ended
+  -- what is left of a session: the outcomes after these further tokens, open or ended
   abbrev pub left_of_session : Course Parser Token State → List Token → Bool → Outcome Value → Type 0
   left_of_session c x m = counted_from_start ((meaning c.parser).rest c.state) (extended x m c.seen)
 
-  -- the invariant of every session
+  -- what is true of every session
   pub record IsSound (IsLawful : Parser → Type 0) (IsValid : State → Type 0) (c : Course Parser Token State) : Type 0 where
     pub lawful : IsLawful c.parser
     pub valid : IsValid c.state
@@ -75,10 +75,10 @@ module _ {Parser Token Range Error Value State : Type 0} (meaning : Parser → M
     pub few : admits c.limit (length c.seen.unread) ≡ true
 
   module _ (valid : State → Type 0) where
-    -- a session of this parser without input yet
+    -- a session of this parser that was fed nothing yet
     pub record BeginsSession (determined : Parser → Type 0) (most : Option ℕ) (p : Parser) (c : Course Parser Token State) : Type 0 where
       pub parser : c.parser ≡ p
-      -- the rest is exactly what the parser means
+      -- what is left is exactly what the parser means
       pub left : (x : List Token) (m : Bool) (o : Outcome Value) → left_of_session c x m o ↔ (meaning p).whole (record { position = 0; unread = x; is_open = m }) o
       pub single : determined p → MeansOne valid (meaning c.parser)
       pub unread : c.seen.unread ≡ []
@@ -87,12 +87,12 @@ module _ {Parser Token Range Error Value State : Type 0} (meaning : Parser → M
       pub limit : c.limit ≡ most
 
     module _ (old new : Course Parser Token State) (piece : List Token) (more : Bool) where
-      -- with the piece this is an outcome, and if there is only one, none has another shape
+      -- with the piece this is an outcome, and where there is only one, none has another shape
       pub record Means (o : Outcome Value) : Type 0 where
         pub is : left_of_session old piece more o
         pub only : MeansOne valid (meaning old.parser) → (p : Outcome Value) → left_of_session old piece more p → shape p ≡ shape o
 
-      -- the unread tokens are an end of those before and the piece, after exactly those that were taken
+      -- what is unread is an end of the old unread tokens and the piece, behind exactly those that were taken
       pub record LeavesUnread : Type 0 where
         pub count : ℕ
         pub within : count ≤ length (old.seen.unread ++ piece)
@@ -103,7 +103,7 @@ module _ {Parser Token Range Error Value State : Type 0} (meaning : Parser → M
       pub record AsksAfterPiece : Type 0 where
         pub is_open : more ≡ true
         pub means : Means Undecided
-        -- whatever follows, each outcome of the rest is one of the rest before
+        -- whatever follows, each outcome of what is left now is one of what was left before
         pub left : (x : List Token) (m : Bool) (o : Outcome Value) → left_of_session new x m o → left_of_session old (piece ++ x) m o
         pub leaves : LeavesUnread
         pub all : (meaning old.parser).keeps → new.seen.unread ≡ []
@@ -131,14 +131,14 @@ module _ {Parser Token Range Error Value State : Type 0} (meaning : Parser → M
       parsed_piece (Ok (answers.Refused error taken committed)) = RefusesPiece error taken committed
       parsed_piece (Err k) = FailsOnPiece k
 
-      -- a parse of the unread tokens and the piece after them
+      -- a parse of the piece behind the unread tokens
       pub record ParsesPiece (result : Result (Answer Value UnexpectedParse) Kind) : Type 0 where
         pub is : parsed_piece result
         pub stage : new.stage ≡ stage_after result
         pub same : MeansSame (meaning old.parser) (meaning new.parser)
         pub limit : new.limit ≡ old.limit
 
-      -- the number of tokens fed in all, with the piece
+      -- how many tokens are fed in all, with the piece
       abbrev pub total : ℕ
       total = old.seen.position + length old.seen.unread + length piece
 
@@ -146,12 +146,12 @@ module _ {Parser Token Range Error Value State : Type 0} (meaning : Parser → M
       abbrev pub fits_session : Type 0
       fits_session = (total < 2 ^ 64) × (admits old.limit (length old.seen.unread + length piece) ≡ true)
 
-      -- or not; and if the parser keeps, then not because of the limit, if the piece alone is within it
+      -- or not; and where the parser keeps, then not for the limit's sake, if the piece alone is within it
       pub record IsTooLong : Type 0 where
         pub why : (2 ^ 64 ≤ total) ⊎ (admits old.limit (length old.seen.unread + length piece) ≡ false)
         pub spared : (meaning old.parser).keeps → admits old.limit (length piece) ≡ true → 2 ^ 64 ≤ total
 
-      -- the piece is fed and parsed, unless it is too long or out of memory
+      -- the piece is fed and parsed, but for one that is too long or finds no room
       abbrev pub feeds_session : Result (Answer Value UnexpectedParse) SessionError → Type 0
       feeds_session (Ok a) = fits_session × ParsesPiece (Ok a)
       feeds_session (Err (errors.Fault k)) = fits_session × ParsesPiece (Err k)
@@ -160,7 +160,7 @@ module _ {Parser Token Range Error Value State : Type 0} (meaning : Parser → M
       feeds_session (Err errors.Closed) = ⊥
       feeds_session (Err errors.Failed) = ⊥
 
-      -- the input ends, and the unread tokens are parsed
+      -- the end is said, and what is unread is parsed
       abbrev pub ends_session : Result (Answer Value UnexpectedParse) SessionError → Type 0
       ends_session (Ok a) = ParsesPiece (Ok a)
       ends_session (Err (errors.Fault k)) = ParsesPiece (Err k)
@@ -175,17 +175,17 @@ module _ {Parser Token Range Error Value State : Type 0} (meaning : Parser → M
       by_stage running stages.Decided result = (result ≡ Err errors.Closed) × (new ≡ old)
       by_stage running stages.Failed result = (result ≡ Err errors.Failed) × (new ≡ old)
 
-      -- the contract of a call that feeds a piece
+      -- what a call that feeds a piece promises
       pub record Feeds (result : Result (Answer Value UnexpectedParse) SessionError) : Type 0 where
         pub is : by_stage feeds_session old.stage result
 
-      -- the contract of the call that ends the input
+      -- what the call that says the end promises
       pub record EndsSession (result : Result (Answer Value UnexpectedParse) SessionError) : Type 0 where
         pub is : by_stage ends_session old.stage result
 
-    -- the contract of the call that begins again with this parser on the unread tokens
+    -- what the call promises that begins again with this parser on what is unread
     module _ (determined : Parser → Type 0) (p : Parser) (old new : Course Parser Token State) (result : Result (Answer Value UnexpectedParse) SessionError) where
-      -- a session of the same limit that begins is fed the unread tokens, open or ended as before; they are within the limit, and no room is needed
+      -- a session of the same limit that begins is fed what was unread, open or ended as before; that is within the limit, and room is never wanted
       pub record Anew : Type 0 where
         pub begun : Course Parser Token State
         pub begins : BeginsSession determined old.limit p begun
@@ -201,7 +201,7 @@ module _ {Parser Token Range Error Value State : Type 0} (meaning : Parser → M
       pub record BeginsAgain : Type 0 where
         pub is : anew_by_stage old.stage
 
--- the result of a parse of the unread tokens, for any view before the piece that is their end
+-- what a parse of the unread tokens answers, whatever was seen before the piece that is their end
 abbrev pub ParsesUnread : {Parser Token Range Error Value State : Type 0} (meaning : Parser → Meaning ℕ Token Range Error Value State) (valid : State → Type 0) (parser parser' : Parser) (state state' : State) (stream stream' : Stream Token) → ParseResult Value UnexpectedParse → Type 0
 ParsesUnread {Token = Token} meaning valid parser parser' state state' stream stream' result =
     (seen : View ℕ Token) (piece : List Token) (more : Bool) (stage : Stage) (limit : Option ℕ) → fed_view stream ≡ extended piece more seen →

@@ -1,4 +1,4 @@
-//! A whole input, parsed window by window. Our own: with combine the caller keeps the input and the state, and loops.
+//! A whole input, parsed window by window. Our own: with the crate a caller keeps the input and the state, and loops.
 ghost use Rattle.std.specs.Prelude.{◌≡◌, ◌↔◌, ℕ, ◌<◌, ◌≤◌, get_or, length, true};
 ghost use Rattle.combine_base.specs.Parser.Meaning.{IsSingle, MeansSame};
 ghost use Rattle.combine_session.specs.Cuts.{CutsFit, RunsCuts, WindowCall};
@@ -9,9 +9,9 @@ use combine_base::stream::{Kind, Positioned, StreamOnce};
 use combine_stream::MaybePartialStream;
 use combine_stream::position::{DefaultPositioned, Stream, Windowed};
 
-/// Returns whether the cuts never decrease, and each is a place of the input.
+/// Returns whether the cuts don't fall, and each is a place of the input.
 ///
-/// Then no cut is past the end, and none is inside a character.
+/// No cut then passes the end, and none is inside a character.
 pub fn cuts_fit<S: Windowed>(whole: S, cuts: &[usize]) -> bool
     ensures { (result ≡ true) ↔ CutsFit (S.places whole) cuts.now }
 {
@@ -28,7 +28,7 @@ pub fn cuts_fit<S: Windowed>(whole: S, cuts: &[usize]) -> bool
     true
 }
 
-// The state of a run: its window, the place of the first unread token, and the number of tokens before it.
+// Where a run stands: its window, the place of the first unread token, and how many tokens stand before it.
 #[derive(Drop)]
 struct Run<S> {
     stream: MaybePartialStream<S>,
@@ -42,9 +42,9 @@ type Parsed<T, S> = Result<
     Kind,
 >;
 
-// Runs a parser once on the window from the first unread token to a place.
+// Makes one call of a parser on the window from the first unread token to a place.
 //
-// The run is passed and returned by value, so that the stream is a local while the parser reads.
+// The run is given and handed back by value, so that the stream is a local while the parser reads.
 fn parse_window<S: Windowed, P: Parser<MaybePartialStream<S::Located>>>(
     parser: &mut P,
     state: &mut P::PartialState,
@@ -90,17 +90,17 @@ fn parse_window<S: Windowed, P: Parser<MaybePartialStream<S::Located>>>(
     )
 }
 
-/// Parses a whole input window by window, and returns the number of windows that needed more, and the first decision.
+/// Parses a whole input window by window, and returns how many windows asked for more, and the first decision.
 ///
-/// The cuts must fit ([`cuts_fit`]). Each window goes from the first unread token to the next cut and is open; the last goes to the end and is ended. No window begins again: the state and the position continue. The result is the whole input's. A refusal counts the tokens taken from the beginning of the input, at most all.
+/// The cuts have to fit, as [`cuts_fit`] says. Each window goes from the first unread token to the next cut and is open, and the last goes to the end, ended. No window begins again: the state and the position go on. The result is that of the whole input. A refusal counts the tokens that had been taken from its beginning, at most all.
 ///
 /// # Errors
 ///
-/// The only fault is `Memory`. The error of a refusal is the parser's on the window that decided; a peeked one is not explained.
+/// The one fault is `Memory`. The error of a refusal is the parser's on the window that decided; a peeked one is not explained.
 ///
 /// # Partial input
 ///
-/// More is needed exactly if the input before the cut is undecided.
+/// More is asked for exactly where what stands before the cut is undecided.
 ///
 /// # Examples
 ///

@@ -9,39 +9,39 @@ use combine_base::stream::{Kind, Positioned, fed};
 use std::alloc::Global;
 use std::marker::Model;
 
-/// The reason why a session returns no result. Our own.
+/// Why a session gives no result. Our own.
 #[derive(Clone, Copy, Debug, PartialEq, Eq)]
 pub enum SessionError {
-    /// Out of memory for the piece. Nothing has changed.
+    /// The piece found no room. Nothing has changed.
     Memory,
     /// A fault inside the parse.
     Fault(Kind),
-    /// There was a decision before.
+    /// It is decided already.
     Closed,
-    /// There was a fault before.
+    /// A fault came before.
     Failed,
     /// The unread tokens and the piece would be more than the session's limit, or all tokens fed more than 2^64 - 1. Nothing has changed.
     TooLong,
 }
 
-/// The stage of a session.
+/// How far a session has come.
 #[derive(Clone, Copy, Debug, PartialEq, Eq)]
 pub enum Stage {
     /// It may be fed.
     Running,
     /// The parser accepted or refused.
     Decided,
-    /// There was a fault.
+    /// A fault came.
     Failed,
 }
 
 /// A parser with its input, which is fed piece by piece until there is a decision. Our own.
 ///
-/// With combine the caller keeps the input and the state, and calls `parse_with_state` for each piece.
+/// With the crate a caller keeps the input and the state, and calls `parse_with_state` for each piece.
 ///
 /// # Errors
 ///
-/// A fault of `feed` or `end` is of kind `Memory`; a parser that allocates nothing has none.
+/// A fault of `feed` or `end` is of kind `Memory`, and a parser that asks for no memory has none.
 ///
 /// # Examples
 ///
@@ -92,11 +92,11 @@ impl<P: Parser<fed::Stream<T>>, T: Copy + 'static> Model for Session<P, T> {
 impl<P: Parser<fed::Stream<T>>, T: Copy + 'static> Session<P, T> {
     ghost use Rattle.combine_session.specs.Sessions.{BeginsSession, BeginsAgain, Feeds, EndsSession};
 
-    /// Returns a session of the parser, without input yet.
+    /// Returns a session of the parser that was fed nothing yet.
     ///
-    /// It allocates nothing.
+    /// It takes no memory.
     ///
-    /// Unread tokens have no limit except memory; `with_limit` sets one.
+    /// What is unread has no limit but memory; `with_limit` sets one.
     pub fn new(alloc: Global, parser: P) -> Self
         requires { P.lawful parser }
         ensures { BeginsSession P.meaning P.valid P.determined None parser result }
@@ -104,13 +104,13 @@ impl<P: Parser<fed::Stream<T>>, T: Copy + 'static> Session<P, T> {
         Self::limited(alloc, parser, None)
     }
 
-    /// Returns a session of the parser, without input yet, of which at most `limit` tokens are ever unread.
+    /// Returns a session of the parser that was fed nothing yet, and of which at most `limit` tokens are ever unread.
     ///
-    /// It allocates nothing.
+    /// It takes no memory.
     ///
-    /// A piece that would make them more is `TooLong`, so a peer that never ends its message can't fill memory with unread tokens. What a parser collects isn't counted. `begin_again` keeps the limit.
+    /// A piece that would make them more is `TooLong`, so a peer that never ends its message can't fill memory with what is unread. What a parser collects isn't counted. The limit stays where the session begins again.
     ///
-    /// A parser that keeps its taken tokens over a cut leaves none unread, and never meets the limit if no piece is longer than it.
+    /// A parser that keeps what it took over a cut leaves nothing unread, and never meets the limit where no piece is longer.
     pub fn with_limit(alloc: Global, parser: P, limit: usize) -> Self
         requires { P.lawful parser }
         ensures { BeginsSession P.meaning P.valid P.determined (Some limit) parser result }
@@ -132,20 +132,20 @@ impl<P: Parser<fed::Stream<T>>, T: Copy + 'static> Session<P, T> {
         }
     }
 
-    /// Feeds a piece, which may be empty, and returns the result of parsing the input so far.
+    /// Feeds a piece, which may be empty, and returns what the parser makes of the input so far.
     ///
-    /// After a refusal `unread` begins after the `taken` tokens, which is where the parser refused.
+    /// After a refusal `unread` begins with the token that comes after the `taken` ones, so this is where it refused.
     ///
     /// # Errors
     ///
     /// - `Closed` after a decision, and `Failed` after a fault.
     /// - `TooLong` if the unread tokens and the piece are more than the limit, or all tokens fed more than 2^64 - 1. A shorter piece may follow.
-    /// - `Memory` if out of memory for the piece. This error and those above come before any parsing, in this order, and change nothing.
-    /// - `Fault` if the parser is out of memory.
+    /// - `Memory` if the piece finds no room. This and those before come before any parsing, in this order, and change nothing.
+    /// - `Fault` if the parser asked for memory and got none.
     ///
     /// # Partial input
     ///
-    /// The result is `More` if the parser is undecided on the input so far, open; if it is `determined`, only then.
+    /// The result is `More` where the parser is undecided on all that was fed, open; if it is `determined`, there alone.
     #[inline]
     pub fn feed(&mut self, piece: &[T]) -> Result<Answer<P::Output, UnexpectedParse>, SessionError>
         ensures { Feeds P.meaning P.valid self.old self.new piece.now true result }
@@ -163,13 +163,13 @@ impl<P: Parser<fed::Stream<T>>, T: Copy + 'static> Session<P, T> {
         Self::settle(&self.stream, &mut self.stage, parsed)
     }
 
-    /// Ends the input, and returns the result of parsing all of it.
+    /// Ends the input, and returns what the parser makes of all of it.
     ///
     /// The result is never `More`.
     ///
     /// # Errors
     ///
-    /// `Closed` after a decision, `Failed` after a fault, and `Fault` if the parser is out of memory.
+    /// `Closed` after a decision, `Failed` after a fault, and `Fault` if the parser asked for memory and got none.
     pub fn end(&mut self) -> Result<Answer<P::Output, UnexpectedParse>, SessionError>
         ensures { EndsSession P.meaning P.valid self.old self.new [] false result }
     {
@@ -179,15 +179,15 @@ impl<P: Parser<fed::Stream<T>>, T: Copy + 'static> Session<P, T> {
         Self::settle(&self.stream, &mut self.stage, parsed)
     }
 
-    /// Begins again with this parser on the unread tokens, and returns its result on them.
+    /// Begins again with this parser on the tokens that are unread, and returns what it makes of them.
     ///
-    /// Pieces are fed as before. Before a decision, the tokens that the last parser has taken are dropped. No token is moved, and the session allocates nothing.
+    /// What follows is fed as before. Before a decision, what the parser has taken so far is let go. No token is moved, and the session takes no memory.
     ///
     /// The position is 0 again, so an acceptance and a refusal count the tokens of their own parse, and only those count for `TooLong`. The limit stays.
     ///
     /// # Errors
     ///
-    /// `Failed` after a fault, and `Fault` as for `feed`. The error is never `Memory` or `TooLong`, since the unread tokens are within the limit already.
+    /// `Failed` after a fault, and `Fault` as for `feed`. The error is never `Memory` or `TooLong`, since what is unread is within the limit already.
     pub fn begin_again(
         &mut self,
         parser: P,
@@ -207,7 +207,7 @@ impl<P: Parser<fed::Stream<T>>, T: Copy + 'static> Session<P, T> {
         Self::settle(&self.stream, &mut self.stage, parsed)
     }
 
-    /// Returns the unread tokens, which are at most as many as the limit.
+    /// Returns the tokens that were fed and not taken, which are at most as many as the limit.
     #[inline]
     pub fn unread(&self) -> &[T]
         ensures unread { result.now ≡ self.now.seen.unread }
@@ -219,12 +219,12 @@ impl<P: Parser<fed::Stream<T>>, T: Copy + 'static> Session<P, T> {
 
 /// Parses the pieces as one input, which then ends. Our own.
 ///
-/// However the input is cut, the result is one that the parser means on all of it. An acceptance counts the tokens taken from the beginning, and so does a refusal, up to where the parser refused: at most all. The error of a refusal is of kind `Refused`, or `End` if the input ended too soon. Pieces after a decision are ignored.
+/// However the input is cut, the result is what the parser means on all of it. An acceptance counts the tokens from its beginning, and so does a refusal: `taken` of them, at most all, had been taken where it refused. The error of a refusal is of kind `Refused`, or `End` where the input ended too soon. Pieces after a decision are not looked at.
 ///
 /// # Errors
 ///
-/// - `Fault`, of kind `Memory`, if the parser is out of memory.
-/// - `Memory` and `TooLong` as for [`Session::feed`]. `Closed` and `Failed` never occur.
+/// - `Fault`, of kind `Memory`, if the parser asked for memory and got none.
+/// - `Memory` and `TooLong` as for [`Session::feed`]. `Closed` and `Failed` never come.
 ///
 /// # Examples
 ///
@@ -248,7 +248,6 @@ pub fn parse_pieces<P: Parser<fed::Stream<T>> + Drop, T: Copy + 'static>(
     ensures { ParsesPieces (P.meaning parser).whole (P.meaning parser).heapless (map (λ p. p.now) pieces.now) result }
 {
     let mut session = Session::new(alloc, parser);
-    // The label names the loop's invariant.
     'pieces: for piece in pieces {
         match session.feed(piece) {
             Ok(answer) => match answer {
@@ -272,7 +271,7 @@ fn is_within(limit: Option<usize>, unread: usize, more: usize) -> bool
     }
 }
 
-// Returns whether `unread` and `more` are together at most `most`. It is a call, so that a session without a limit computes nothing of it.
+// Returns whether `unread` and `more` are together at most `most`. It stands apart, so that a session without a limit computes nothing of it.
 #[cold]
 #[inline(never)]
 fn is_at_most(most: usize, unread: usize, more: usize) -> bool
@@ -284,7 +283,7 @@ fn is_at_most(most: usize, unread: usize, more: usize) -> bool
 impl Stage {
     ghost use Rattle.combine_session.specs.Sessions.{checked_stage};
 
-    /// Returns an error if a session may not continue.
+    /// Refuses where a session may not go on.
     fn check(self) -> Result<(), SessionError>
         ensures { result ≡ checked_stage self }
     {
@@ -305,7 +304,7 @@ impl<P: Parser<fed::Stream<T>>, T: Copy + 'static> Session<P, T> {
     ghost use Rattle.combine_session.specs.declared.session.Stage.{Stage};
     ghost use Rattle.combine_session.specs.declared.session.Stage.TheVariants as stages;
 
-    // Parses the unread tokens, which end with a piece, and returns the parser's result. The first feed resumes from the default state, which means the whole. A stream in a local variable is read much faster than one through a reference. This is a call, so that a parse's code is in a session once.
+    // Parses the unread tokens, of which a piece is the end, and returns the parser's result. The first feed resumes from the default state, which means the whole. A stream in a local of its own is read much faster than one behind a reference.
     #[inline(never)]
     fn advance(
         parser: &mut P,
@@ -327,7 +326,7 @@ impl<P: Parser<fed::Stream<T>>, T: Copy + 'static> Session<P, T> {
         parsed
     }
 
-    // Parses as `advance` does if no state is kept yet, so that the mode is known when the parser is compiled.
+    // Parses as `advance` does where nothing is kept yet, so that the mode is known where the parser is compiled.
     #[inline(never)]
     fn start(
         parser: &mut P,
@@ -348,7 +347,7 @@ impl<P: Parser<fed::Stream<T>>, T: Copy + 'static> Session<P, T> {
         parsed
     }
 
-    // Judges the parser's result and the stream after it, and sets the stage of the session.
+    // Judges the parser's result, given the stream after it, and sets how far the session then is.
     #[inline(always)]
     fn settle(
         stream: &fed::Stream<T>,

@@ -12,7 +12,7 @@ module _ {T : Type 0} (f : T → Bool → Type 0) where
   longest_inside (b ∷ bs) es zero h l = l
   longest_inside (b ∷ bs) es (suc k) h l = (l.0, longest_inside bs es k (omega arith) l.1)
 
-  -- if all of a block passes, the longest beginning continues after it
+  -- where all of a block passes, it goes on behind
   longest_behind : (bs es : List T) (j : ℕ) → Longest f bs (length bs) → Longest f es j → Longest f (bs ++ es) (length bs + j)
   longest_behind [] es j l m = subst (Longest f es) {x = j} {y = 0 + j} (omega arith) m
   longest_behind (b ∷ bs) es j l m =
@@ -36,7 +36,7 @@ module _ {T : Type 0} (f : T → Bool → Type 0) where
     pub block_within : (m : ℕ) → m ≤ length ds → n + m ≤ length cs
     block_within m h = let e = left in let d = passed_count in omega arith
 
-    -- the rest is tested
+    -- the rest is looked through
     pub passed_rest : (m : ℕ) → LongestItems (λ t. 1) f ds m → LongestItems (λ t. 1) f cs (n + m)
     passed_rest m l =
         let w = l.place.within in
@@ -57,7 +57,7 @@ module _ {T : Type 0} (f : T → Bool → Type 0) where
           let b = length-take-le l.count ds (omega arith) in
           passed_rest m (record { count = l.count; longest = subst (λ us. Longest f us l.count) (take-append-drop k ds) (longest_inside (take k ds) (drop k ds) l.count (omega arith) l.longest); place = record { within = omega arith; items = omega arith } })
 
-      -- a block that passes as a whole
+      -- a block that all passes
       pub passed_block : (m < k → ⊥) → PassesTest (λ t. 1) f cs (drop k ds) (n + m)
       passed_block i =
           let c = counted (take k ds) m l in

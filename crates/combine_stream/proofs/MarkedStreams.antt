@@ -1,4 +1,4 @@
--- calls of a stream are calls of that stream, opened or ended
+-- calls of a stream are calls of that stream with another mark
 use Rattle.std.proofs.Common.{ℕ, List, Bool, ap, sym, refl, ◌∙◌}
 use Rattle.std.specs.Prelude.{Result, Ok, Err, Option, Some, None}
 use Rattle.combine_base.specs.Stream.View.{View, Ahead, Takes, Moves}
@@ -72,6 +72,6 @@ module _ {P T : Type 0} (b : Bool) where
       marked_uncons_while t (Ok r) h = record { is = (h.is.0, h.is.1, marked_range r h.is.0 h.is.2) }
       marked_uncons_while t (Err k) h = record { is = (h.is.0, marked_fails h.is.1) }
 
--- the places of two views are apart, whether open or ended
+-- the places of two views are apart, whatever their marks
 pub unmarked_ahead : {P T : Type 0} (step : P → T → P) (k : ℕ) (a b : Bool) (u v : View P T) → Ahead step k (marked a u) (marked b v) → Ahead step k u v
 unmarked_ahead step k a b u v h = record { enough = h.enough; position = h.position; unread = h.unread }

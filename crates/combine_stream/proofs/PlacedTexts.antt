@@ -44,7 +44,7 @@ module _ (bytes front back : List ℕ) (n k : ℕ) (c : Cut bytes n k front back
 pub bytes_apart : (from to : List ℕ) (k : ℕ) → IsUtf8 from → IsUtf8 to → chars to ≡ drop k (chars from) → length from - length to ≡ size_of len_utf8 (take k (chars from))
 bytes_apart from to k u w e = let a = text_size from u in let b = text_size to w in let d = size_take len_utf8 k (chars from) in let f = ap (size_of len_utf8) e in omega arith
 
--- parts of a text with different characters have different lengths
+-- parts of a text have other lengths, where they have other characters
 pub other_part : (from to : List ℕ) (k : ℕ) → IsUtf8 from → IsUtf8 to → k ≤ length (chars from) → chars to ≡ drop k (chars from) → not (nat_eq (length to) (length from)) ≡ nat_lt 0 k
 other_part from to k u w h e =
     let a = text_size from u in

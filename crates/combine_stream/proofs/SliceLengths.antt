@@ -1,4 +1,4 @@
--- positions that are the length of the rest, after some tokens
+-- positions that say how much is left, after some tokens
 use Rattle.std.proofs.Common.{ℕ, zero, suc, ◌+◌, ◌-◌, ◌≤◌, ◌≡◌, List, [], ◌∷◌, take, length, arith, ap, refl, ◌∙◌}
 use Rattle.combine_base.specs.Stream.View.{View, Ahead, after_all}
 use Rattle.combine_stream.specs.Range.Ranges.{size_of, IsItemPlace, size_take}
@@ -17,7 +17,7 @@ module _ {T : Type 0} where
   pub slice_place : (n : ℕ) (ts : List T) → n ≤ length ts → IsItemPlace (λ t. 1) ts n n
   slice_place n ts h = record { within = h; items = ones_take n ts h }
 
--- the items passed over, by the rest
+-- what was passed over, by what is left
 pub distance_is : {P T : Type 0} (step : P → T → P) (size : T → ℕ) (n m k : ℕ) (v u : View P T) → Ahead step k v u → n ≡ size_of size v.unread → m ≡ size_of size u.unread → n - m ≡ size_of size (take k v.unread)
 distance_is step size n m k v u t a b =
     let e = size_take size k v.unread in

@@ -14,7 +14,7 @@ use Rattle.combine_stream.proofs.SliceLengths.{left_after}
 pub text_size : (bytes : List ℕ) → IsUtf8 bytes → length bytes ≡ size_of len_utf8 (chars bytes)
 text_size bytes u = ap length (sym (encodes-chars bytes u)) ∙ size_encodes (chars bytes)
 
--- the first n bytes, which end after a character
+-- the first n bytes, which end behind a character
 module _ (bytes : List ℕ) (n : ℕ) (u : IsUtf8 bytes) (b : IsCharBoundary bytes n) where
   abbrev pub text_count : ℕ
   text_count = length (chars (take n bytes))
@@ -58,7 +58,7 @@ scalars_drop zero cs h = h
 scalars_drop (suc k) [] h = h
 scalars_drop (suc k) (c ∷ cs) h = scalars_drop k cs (right_of (scalar c) (scalars cs) h)
 
--- where a text can't be cut, no character ends
+-- where no text may be cut, no character ends
 pub text_inside : (bytes : List ℕ) (n : ℕ) → IsUtf8 bytes → n ≤ length bytes → (IsCharBoundary bytes n → ⊥) → EndsInsideToken len_utf8 (chars bytes) n
 text_inside bytes n u h b = record {
   enough = let a = text_size bytes u in omega arith;

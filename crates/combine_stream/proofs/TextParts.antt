@@ -8,7 +8,7 @@ use Rattle.combine_base.proofs.Streams.FirstCharacter.{few_chars}
 use Rattle.combine_stream.specs.Position.Lines.{CountsFit, place_behind, line_feeds, has_feed, last_line}
 use Rattle.combine_stream.specs.Range.TextWindows.{index_of, chars_later}
 
--- a place before another one is a place of the text before that
+-- a place before another one is a place of what stands before that
 pub place_inside : (bytes : List ℕ) (c d : ℕ) → IsUtf8 bytes → IsCharBoundary bytes c → IsCharBoundary bytes d → c ≤ d → IsCharBoundary (take d bytes) c
 place_inside bytes c d u b e l =
     let k = length-take-le d bytes e.0 in
@@ -66,7 +66,7 @@ scalars_take (suc k) (c ∷ cs) h = both (scalar c) (scalars cs) (scalars (take 
     both true b d h f = f h
     both false b d h f = absurd (cc)
 
--- the place of the unread rest, which is a part's characters after its first k
+-- the place of what is unread, where that are the characters of a part behind its first k
 module _ (bytes rest : List ℕ) (d k : ℕ) (u : IsUtf8 bytes) (w : IsUtf8 rest) (e : IsCharBoundary bytes d) (l : k ≤ index_of bytes d) (h : chars rest ≡ drop k (take (index_of bytes d) (chars bytes))) where
   abbrev front : List ℕ
   front = encodes (take k (chars (take d bytes)))

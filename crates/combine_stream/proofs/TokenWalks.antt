@@ -1,4 +1,4 @@
--- a walk over tokens that pass a test, and the range taken after it
+-- a walk over tokens that pass a test, and what is taken after it
 use Rattle.std.proofs.Common.{ℕ, suc, ◌+◌, ◌≤◌, ◌<◌, ◌≡◌, List, [], ◌∷◌, Bool, true, false, take, drop, length, arith, ap, sym, subst, refl, ◌∙◌, length-drop, zero-add}
 use Rattle.std.specs.Prelude.{Result, Ok, Err}
 use Rattle.std.proofs.Math.Seq.{take-add}

@@ -1,4 +1,4 @@
--- streams that return ranges
+-- streams that hand out ranges
 pub mod Measures
 pub mod Ranges
 pub mod TextRanges

@@ -1,4 +1,4 @@
-//! A stream of which a chosen read or reset fails.
+//! A stream of which a read or a reset fails.
 ghost use Rattle.std.specs.Prelude.{◌≡◌};
 ghost use Rattle.combine_base.specs.Stream.Calls.{Passes, ResetTo, Uncons};
 ghost use Rattle.combine_stream.specs.FailingCalls.{CountsCall, due_at, failed, failures_of, fails_next, one_call, read_due, reset_due, wrapped};
@@ -12,7 +12,7 @@ use combine_base::stream::{Failures, Kind, Positioned, ResetStream, Stream, Stre
 
 /// A stream whose reads and resets never fail. Our own.
 pub trait Unfailing: ResetStream {
-    /// The counts of failures never change.
+    /// The counts of failures stand.
     ghost never_fails: { (s t : Self) → Self.failures s ≡ Self.failures t };
 }
 
@@ -50,19 +50,19 @@ impl<S: Unfailing> Unfailing for MaybePartialStream<S> {
     ghost never_fails = { λ s t. S.never_fails s.0 t.0 };
 }
 
-// When a call of one kind fails.
+// A call that is to fail, of those of one sort.
 #[derive(Drop)]
 enum Due {
-    // None fails.
+    // None is.
     Never,
-    // The one after that many others fails.
+    // One is, after that many others.
     After(u64),
-    // One has failed.
+    // One was, and has failed.
     Past,
 }
 
 impl Due {
-    // Returns when a call fails, by its number from 1; 0 is for none.
+    // Returns the call with that number, from 1; none for 0.
     fn at(number: u64) -> Due
         ensures { result ≡ due_at number }
     {
@@ -93,7 +93,7 @@ impl Due {
         }
     }
 
-    // Returns the number of calls that have failed so far.
+    // Returns how often a call has failed so far.
     fn failed(&self) -> u64
         ensures { result ≡ failed self.now }
     {
@@ -105,9 +105,9 @@ impl Due {
     }
 }
 
-/// A stream of which a chosen read fails, or a chosen reset, or both, once each. For tests.
+/// A stream of which one read fails, or one reset, or one of each: once, by its number. For tests.
 ///
-/// `uncons`, `uncons_range` and `uncons_while` are one read each, and `advance_by` is one for each token. The calls before the one that fails are counted down, so that no count grows without end.
+/// `uncons`, `uncons_range` and `uncons_while` are one read each, and `advance_by` is one for each token. The calls before one that is to fail are counted down, so that no count grows without end.
 ///
 /// # Errors
 ///
@@ -120,7 +120,7 @@ pub struct Faulty<S> {
 }
 
 impl<S> Faulty<S> {
-    /// Returns the stream, whose read and whose reset with those numbers fail: from 1, and none for 0.
+    /// Makes the stream, whose read and whose reset with those numbers fail: from 1, and none for 0.
     #[inline]
     pub fn new(inner: S, read_at: u64, reset_at: u64) -> Self
         ensures inside { wrapped result ≡ inner }
@@ -134,7 +134,7 @@ impl<S> Faulty<S> {
         }
     }
 
-    /// Returns the inner stream.
+    /// Returns the stream inside.
     #[inline]
     pub fn into_inner(self) -> S
         ensures { result ≡ wrapped self }
@@ -248,7 +248,7 @@ impl<S: Unfailing + Positioned> Positioned for Faulty<S> {
 
 impl<S: Unfailing + Stream> Stream for Faulty<S> {}
 
-/// The ranges are the inner stream's.
+/// The ranges are those of the stream inside.
 impl<S: Unfailing + RangeStream> RangeStream for Faulty<S>
 where
     S::Range: Range,

@@ -1,4 +1,4 @@
-//! Streams over slices and texts: counted positions, ranges, partial streams, and streams that fail.
+//! Streams over slices and texts: positions that are counted, ranges, streams that may go on, and streams that fail.
 #![tactic(auto)]
 
 mod faulty;

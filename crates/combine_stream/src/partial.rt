@@ -1,11 +1,11 @@
-//! A stream with a flag for whether it is open.
+//! A stream that may go on.
 ghost use Rattle.std.specs.Prelude.{◌≡◌};
 
 use crate::range::{Range, RangeStream};
 use combine_base::function::Function;
 use combine_base::stream::{Failures, Kind, Positioned, ResetStream, Stream, StreamOnce};
 
-/// A stream that is open if its flag is `true`, and else ended, whatever the inner stream is.
+/// A stream that is open if the mark is `true`, and else ended, whatever the stream inside says.
 #[derive(Drop)]
 pub struct MaybePartialStream<S>(pub S, pub bool);
 
@@ -27,7 +27,7 @@ impl<S: StreamOnce> StreamOnce for MaybePartialStream<S> {
 
     ghost step = { S.step };
 
-    /// The places of the inner stream, and one for whether the stream is open.
+    /// The places of the stream inside, and one that says whether it is open.
     ghost marks = { λ s. or_mark s.1 (S.marks s.0) };
 
     ghost failures = { λ s. S.failures s.0 };

@@ -12,35 +12,35 @@ pub use text::{SourcePosition, TextStream};
 
 /// The inputs whose position can be counted: slices and texts.
 ///
-/// combine's trait names the type that counts; this one names the stream of such an input with its position.
+/// In the crate it says which type counts; here, which stream the input is with its position.
 pub trait DefaultPositioned {
     /// The stream of such an input.
     type Located: combine_base::stream::Stream;
 
-    /// The view of the whole input.
+    /// What is seen of the whole input.
     ghost whole: { Self → View Self.Located.Position Self.Located.Token };
 
     /// The position after that many tokens of the whole input.
     ghost behind: { Self → ℕ → Self.Located.Position };
 
-    /// Returns the stream of the whole input, at the first position.
+    /// Makes the whole input, at the first position.
     fn place(self) -> Self::Located
         ensures { Self.Located.view result ≡ whole self };
 
-    /// The position after that many tokens is `behind`.
+    /// The position is what was said.
     ghost counts: { (s : Self) (n : ℕ) → n ≤ length (whole s).unread → (advanced Self.Located.step n (whole s)).position ≡ behind s n };
 }
 
 /// An input of which parts can be parsed, one window after another: a slice or a text. Our own.
 ///
-/// A place is the number of items before it: of tokens in a slice, of bytes in a text.
+/// Its places are numbers of items before them: of tokens in a slice, of bytes in a text.
 pub trait Windowed: DefaultPositioned + Copy {
     ghost use Rattle.std.specs.Prelude.{◌↔◌, take, drop};
 
-    /// The places at which no token is cut.
+    /// No token is cut at the place.
     ghost places: { Self → ℕ → Type 0 };
 
-    /// The number of tokens before a place.
+    /// How many tokens stand before a place.
     ghost index: { Self → ℕ → ℕ };
 
     /// Returns whether no token is cut at the place, and it isn't past the end.
@@ -52,14 +52,14 @@ pub trait Windowed: DefaultPositioned + Copy {
         ensures place { places self result }
         ensures none { index self result ≡ 0 };
 
-    /// Returns the last place: the number of items.
+    /// Returns the last place: how many items there are.
     fn end(self) -> usize
         ensures place { places self result }
         ensures all { index self result ≡ length (Self.DefaultPositioned.whole self).unread };
 
-    /// Returns the stream of the items between two places, at the position of the first.
+    /// Makes a stream of what stands between two places, at the position of the first.
     ///
-    /// The first place is at most the second, and `position` is the one after the tokens before the first.
+    /// The first place is at most the second, and the position is that after the tokens before it.
     fn window(
         self,
         from: usize,
@@ -77,7 +77,7 @@ pub trait Windowed: DefaultPositioned + Copy {
         requires { places self to }
         ensures { (k : ℕ) → k ≤ index self to → (Self.Located.view window.now).unread ≡ drop k (take (index self to) (Self.DefaultPositioned.whole self).unread) → places self result × (result ≤ to) × (index self result ≡ k) };
 
-    /// Returns the number of tokens before a place, from the number before an earlier one.
+    /// Returns how many tokens stand before a place, from how many stand before an earlier one.
     ///
     /// The earlier place is at most the later one.
     fn count_to(self, to: usize, from: usize, before: usize) -> usize
@@ -93,17 +93,17 @@ pub trait Windowed: DefaultPositioned + Copy {
     /// A place with fewer tokens before it is an earlier one.
     ghost ordered: { (s : Self) (c d : ℕ) → places s c → places s d → index s c ≤ index s d → c ≤ d };
 
-    /// Reads and resets never fail.
+    /// Neither reads nor resets fail.
     ghost never_fails: { (s t : Self.Located) → Self.Located.failures s ≡ Self.Located.failures t };
 }
 
 /// Makes streams that count their position: `Stream::new(input)`.
 ///
-/// A slice has an index from 0, a text a [`SourcePosition`] from line 1 and column 1. Both are ended. Positions count from the beginning of the input, also after a reset.
+/// A slice has an index from 0, a text a [`SourcePosition`] from line 1 and column 1. Both are ended. The position stays counted from where the input began, also after a reset.
 ///
 /// # Differences from combine
 ///
-/// In combine this is the stream itself, with the input and what counts. Here the stream is a [`SliceStream`] or a [`TextStream`].
+/// In the crate this is the stream itself, with the input and what counts. Here that is a [`SliceStream`] or a [`TextStream`].
 ///
 /// # Examples
 ///
@@ -117,7 +117,7 @@ pub trait Windowed: DefaultPositioned + Copy {
 pub struct Stream;
 
 impl Stream {
-    /// Returns the stream of the whole input, at the first position.
+    /// Makes the stream of the whole input, at the first position.
     #[inline]
     pub fn new<S: DefaultPositioned>(input: S) -> S::Located
         ensures { S.Located.view result ≡ S.whole input }

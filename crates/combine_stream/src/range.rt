@@ -1,4 +1,4 @@
-//! Streams that return ranges of their tokens.
+//! Streams that hand out ranges of their tokens.
 ghost use Rattle.std.specs.Prelude.{◌≡◌, ℕ, ◌<◌, List, length, take};
 ghost use Rattle.combine_base.specs.Stream.View.{View, Ahead};
 ghost use Rattle.combine_base.specs.Stream.Calls.{Passes};
@@ -12,7 +12,7 @@ pub(crate) mod texts;
 
 /// A part of an input, measured in items: tokens of a slice, or bytes of a text.
 ///
-/// It is `Copy`; combine requires `Clone`.
+/// It is `Copy`, where the crate asks `Clone`.
 pub trait Range: Copy {
     ghost count: { Self → ℕ };
 
@@ -21,7 +21,7 @@ pub trait Range: Copy {
         ensures { result ≡ count self.now };
 }
 
-/// A range whose items are bytes. Our own: combine requires `AsRef<[u8]>`.
+/// A range whose items are bytes. Our own: the crate asks `AsRef<[u8]>`.
 pub trait ByteRange: Range {
     ghost bytes: { Self → List ℕ };
 
@@ -33,7 +33,7 @@ pub trait ByteRange: Range {
     ghost counts: { (r : Self) → Self.Range.count r ≡ length (bytes r) };
 }
 
-/// A stream that returns ranges of its tokens.
+/// A stream that hands out ranges.
 pub trait RangeStream: Stream
 where
     Self::Range: Range,
@@ -41,7 +41,7 @@ where
     /// The number of items of a token.
     ghost size: { Self.Token → ℕ };
 
-    /// The tokens of a range.
+    /// The range holds these tokens.
     ghost spells: { Self.Range → List Self.Token → Type 0 };
 
     /// Takes the first n items.
@@ -67,15 +67,15 @@ where
         ensures read { UnconsWhile Self.counts_failures Self.step size spells (Self.view self.old) (Self.view self.new) (Self.failures self.old) (Self.failures self.new) (F.returns f.now) result }
         ensures passes { Passes (Self.marks self.old) (Self.marks self.new) (Self.failures self.old) (Self.failures self.new) };
 
-    /// Returns the number of items taken since the checkpoint was made.
+    /// Returns the number of items that were taken since the checkpoint was made.
     fn distance(&self, since: &Self::Checkpoint) -> usize
         ensures { (v : View Self.Position Self.Token) (k : ℕ) → Self.stands self.now since.now v → Ahead Self.step k v (Self.view self.now) → result ≡ size_of size (take k v.unread) };
 
-    /// Returns all unread tokens as a range.
+    /// Returns all that is unread.
     fn range(&self) -> Self::Range
         ensures { spells result (Self.view self.now).unread };
 
-    /// A token has at least one item.
+    /// Each token is some items.
     ghost filled: { (t : Self.Token) → 0 < size t };
 
     /// A range has as many items as its tokens.

@@ -1,4 +1,4 @@
-//! Parsers of single tokens and of lists of tokens, and values that take no token.
+//! Parsers of single tokens and of token lists, values that take none, and choices among parsers.
 #![tactic(auto)]
 
 pub mod token;

@@ -1,6 +1,6 @@
 //! Parsers of single tokens and of lists of tokens, and of values for which no token is read.
 //!
-//! The parsers of single tokens and of values keep no state: on need of more nothing is taken and nothing unread, and the next call begins again. A list of tokens keeps the number of matched tokens.
+//! The parsers of single tokens and of values keep no state: on need of more nothing was taken and nothing is unread, and the next call begins again. A list of tokens keeps how many were matched.
 ghost use Rattle.std.specs.Prelude.{◌≡◌};
 ghost use Rattle.combine_token.specs.Token.TokenParsers.{any_parser, eof_parser, position_parser, produce_parser, satisfy_map_parser, satisfy_parser, token_parser, value_parser};
 
@@ -16,13 +16,13 @@ pub use among::{none_of, one_of};
 pub use lists::types::TokensState;
 pub use lists::{match_list, tokens, tokens_cmp};
 
-/// Parses any token, and returns it.
+/// Takes any token, which is the value.
 ///
 /// The acceptance is committed.
 ///
 /// # Errors
 ///
-/// The end of ended input is refused peeked, without an expected item.
+/// The end of ended input is refused peeked, and nothing is said to be expected.
 ///
 /// # Partial input
 ///
@@ -44,7 +44,7 @@ pub fn any<Input>() -> Any<Input>
     Any { reads: PhantomData }
 }
 
-/// Parses a token for which the predicate returns true, and returns it.
+/// Takes a token that the predicate holds of, which is the value.
 ///
 /// `predicate: Fn(Input::Token) -> bool`, or a `Function`.
 ///
@@ -52,7 +52,7 @@ pub fn any<Input>() -> Any<Input>
 ///
 /// # Errors
 ///
-/// Another token is put back and refused peeked, as is the end of ended input, without an expected item.
+/// Another token is put back and refused peeked, as is the end of ended input. Nothing is said to be expected.
 ///
 /// # Partial input
 ///
@@ -60,7 +60,7 @@ pub fn any<Input>() -> Any<Input>
 ///
 /// # Differences from combine
 ///
-/// The predicate is an `Fn`; combine takes an `FnMut`.
+/// The predicate is an `Fn`, where the crate takes an `FnMut`.
 ///
 /// # Examples
 ///
@@ -81,7 +81,7 @@ pub fn satisfy<Input, F>(predicate: F) -> Satisfy<Input, F>
     }
 }
 
-/// Parses a token for which the function returns `Some`, and returns that value.
+/// Takes a token that the function gives a value for, which is the value.
 ///
 /// `predicate: Fn(Input::Token) -> Option<B>`, or a `Function`.
 ///
@@ -89,7 +89,7 @@ pub fn satisfy<Input, F>(predicate: F) -> Satisfy<Input, F>
 ///
 /// # Errors
 ///
-/// Another token is put back and refused peeked, as is the end of ended input, without an expected item.
+/// Another token is put back and refused peeked, as is the end of ended input. Nothing is said to be expected.
 ///
 /// # Partial input
 ///
@@ -97,7 +97,7 @@ pub fn satisfy<Input, F>(predicate: F) -> Satisfy<Input, F>
 ///
 /// # Differences from combine
 ///
-/// The function is an `Fn`; combine takes an `FnMut`.
+/// The function is an `Fn`, where the crate takes an `FnMut`.
 ///
 /// # Examples
 ///
@@ -123,15 +123,15 @@ pub fn satisfy_map<Input, F>(predicate: F) -> SatisfyMap<Input, F>
     }
 }
 
-/// Parses a token that equals `token`, and returns it.
+/// Takes a token that equals this one.
 ///
-/// The value is the token of the input.
+/// The value is the token that was taken.
 ///
 /// The acceptance is committed.
 ///
 /// # Errors
 ///
-/// Another token is put back and refused peeked, as is the end of ended input. The expected item is `token`.
+/// Another token is put back and refused peeked, as is the end of ended input. This token is said to be expected.
 ///
 /// # Partial input
 ///
@@ -156,7 +156,7 @@ pub fn token<Input, T>(token: T) -> Token<Input, T>
     }
 }
 
-/// Returns the current position.
+/// Gives the position.
 ///
 /// It accepts everywhere, peeked, and reads nothing.
 ///
@@ -176,17 +176,17 @@ pub fn position<Input>() -> Position<Input>
     Position { reads: PhantomData }
 }
 
-/// Returns a clone of the value.
+/// Gives a clone of the value.
 ///
 /// It accepts everywhere, peeked, and reads nothing.
 ///
 /// # Errors
 ///
-/// A clone that is out of memory is the fault `Memory`.
+/// A clone that finds no memory is the fault `Memory`.
 ///
 /// # Differences from combine
 ///
-/// combine's clone can't fail.
+/// The crate's clone can't fail.
 ///
 /// # Examples
 ///
@@ -207,7 +207,7 @@ pub fn value<Input, T>(value: T) -> Value<Input, T>
     }
 }
 
-/// Returns the result of the function.
+/// Gives what the function returns.
 ///
 /// `f: Fn() -> B`, or a `Maker`.
 ///
@@ -215,7 +215,7 @@ pub fn value<Input, T>(value: T) -> Value<Input, T>
 ///
 /// # Differences from combine
 ///
-/// The function is an `Fn`; combine takes an `FnMut`.
+/// The function is an `Fn`, where the crate takes an `FnMut`.
 ///
 /// # Examples
 ///
@@ -240,7 +240,7 @@ pub fn produce<Input, F>(f: F) -> Produce<Input, F>
 ///
 /// # Errors
 ///
-/// A token is put back and refused peeked. The expected item is the end of input.
+/// A token is put back and refused peeked. The end of input is said to be expected.
 ///
 /// # Partial input
 ///
@@ -248,7 +248,7 @@ pub fn produce<Input, F>(f: F) -> Produce<Input, F>
 ///
 /// # Differences from combine
 ///
-/// At the end of an open piece combine's accepts, whatever may follow.
+/// At the end of an open piece the crate's is accepted, whatever may follow.
 ///
 /// # Examples
 ///

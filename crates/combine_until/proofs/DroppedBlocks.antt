@@ -1,4 +1,4 @@
--- proofs that skipping repetitions up to a place have the outcomes of collecting ones
+-- repetitions up to a place beside one another: the proofs
 use Rattle.std.proofs.Common.{◌≡◌, List, [], ◌∷◌, Option, Some, None, refl, ◌∙◌}
 use Rattle.combine_base.specs.Error.Errors.{Observers}
 use Rattle.combine_base.specs.Stream.View.{View}
@@ -21,7 +21,7 @@ module _ {A Held : Type 0} (more : Held → A → Held) where
   folds_on h (Some x ∷ xs) = let r = folds_on (more h x) xs in (r.0, (more h x, refl, r.1))
 
 module _ {P T R E A B V S U Held : Type 0} (step : P → T → P) (errors : Observers T R P E) (held : V → Held) (none : Held) (more : Held → A → Held) (heapless : Type 0) (part : Meaning P T R E A S) (end : Meaning P T R E B U) where
-  -- the same blocks, dropped instead of collected
+  -- the same blocks, collected as that
   alike : {W : Type 0} (v : View P T) (o : Outcome V) (i : Outcome W) → shape i ≡ shape o → HoldsCollected (some_dropped {A = A} {V = W}) i tt → (repeat_until step errors (some_appended held none more heapless) part end).whole v o → (repeat_until step errors (some_dropped {V = W}) part end).whole v i
   alike v o i e q t = record { enough = t.enough; blocks = t.blocks; last = t.last; held = tt; divided = t.divided; joined = e ∙ t.joined; folded = drops_all (values t.blocks); collected = q }
 

@@ -1,4 +1,4 @@
--- where `end` is refused peeked, the result of the block's parser is the result
+-- where the parser that ends the blocks is refused peeked, what that of a block answers is the answer
 use Rattle.std.proofs.Common.{◌≡◌, Bool, ap, inr, refl, subst}
 use Rattle.std.specs.Prelude.{Option, Some, None}
 use Rattle.combine_base.specs.Stream.View.{View}
@@ -29,7 +29,7 @@ module _ {P T R V S S' E C : Type 0} (step : P → T → P) (errors : Observers 
   pub next_chose : Tried (world step errors counts_failures fresh) fresh' valid law a a' x y first given none old now before so_far (RunsLater kept refused) → Followed step errors counts_failures joins fresh' law' valid' b b' y z first kept none left None now new so_far after result → Chose (world step errors counts_failures (λ s. s ≡ Peek)) (law × law') (or_valid valid valid') (either_of second_alone a b) (either_of second_alone a' b') x z (record { first = first; state = given; left = left; old = old; new = new; before = before; after = after }) result
   next_chose t f = gone_chose step errors counts_failures second_alone h k first given none old now before so_far kept refused t (λ a b e j. inr (ap errors.kind j)) new after left result (record { answer = f.answer; stopped = f.stopped; called = f.called; settled = record { is = alone errors refused f.answer result f.settled.is; asks = f.settled.asks; ends = f.settled.ends } })
 
--- the facts of the borrowed parsers hold of the parsers at the end
+-- what is known of the parsers that were lent is known of what these are in the end
 module _ {P T R V S S' E C X Y : Type 0} (lawful : X → Type 0) (lawful' : Y → Type 0) (m : X → Meaning P T R E V S) (n : Y → Meaning P T R E V S') {joins : E → E → E → Type 0} {w : World P T (OrState S S') E} {accepts : OrState S S' → Type 0} {old : Meaning P T R E V (OrState S S')} {a b : C → View P T → Type 0} {r : CallRecord P T (OrState S S')} {answer : ParseResult V E} {x x' : X} {y y' : Y} where
   pub of_lent : x ≡ x' → y ≡ y' → Chose w (lawful x × lawful' y) accepts old (either_of joins (m x) (n y)) a b r answer → Chose w (lawful x' × lawful' y') accepts old (either_of joins (m x') (n y')) a b r answer
   of_lent p q c = subst (λ z. Chose w (lawful x' × lawful' z) accepts old (either_of joins (m x') (n z)) a b r answer) q (subst (λ z. Chose w (lawful z × lawful' y) accepts old (either_of joins (m z) (n y)) a b r answer) p c)

@@ -1,4 +1,4 @@
--- a call of blocks up to a place: each turn continues, and each way out is a result of the call
+-- a call of blocks up to a place: each turn goes on, and each way out is an answer of the call
 use Rattle.std.proofs.Common.{ℕ, ◌+◌, ◌<◌, ◌≤◌, ◌≡◌, ◌⊎◌, inl, inr, List, [], ◌∷◌, Bool, true, false, ◌||◌, ◌&&◌, Option, Some, None, length, arith, ap, sym, subst, refl, ◌∙◌, length-append, nat_lt, lt-ltb, ltb-true}
 use Rattle.combine_base.specs.Stream.View.{View, Takes, Moves, advanced, extended, MayFollow}
 use Rattle.combine_base.specs.Stream.Advance.{advanced_twice, advanced_extended, extended_none, follows_none, decided_stays}
@@ -35,14 +35,14 @@ stop_positive : {A : Type 0} (before beyond : ℕ) (bs : List (Block A)) → 0 <
 stop_positive before beyond [] p = lt-ltb 0 before p
 stop_positive before beyond (b ∷ bs) p = lt-ltb 0 (before + beyond + (b.count + taken bs)) (omega arith)
 
--- tokens before the place already mean that the blocks are committed
+-- that tokens stand before says already that the blocks are committed
 counted_already : (n : ℕ) (t k a : Bool) (l : Outcome (Unit {0})) → (t ≡ true → nat_lt 0 n ≡ true) → stopped_at n ((k || t) || a) l ≡ stopped_at n (k || a) l
 counted_already n true k a (Accepted u m j) h = let i = h refl in rw i refl
 counted_already n false k a (Accepted u m j) h = rw (or_false k) refl
 counted_already n t k a (Refused j) h = refl
 counted_already n t k a Undecided h = refl
 
--- the tokens of a resumed turn don't count where the blocks end there
+-- the tokens of a turn that goes on don't count where the blocks end there
 stopped_cut : (n m : ℕ) (k : Bool) (l : Outcome (Unit {0})) → stopped_at n k l ≡ stopped_at n k (after m false l)
 stopped_cut n m k (Accepted u i j) = refl
 stopped_cut n m k (Refused j) = refl
@@ -57,7 +57,7 @@ both_true true b e = refl
 both_true false b e = absurd (cc)
 
 module _ {P T R A V S E : Type 0} (w : World P T S E) (errors : Observers T R P E) (c : Collecting (Option A) V) (m : Meaning P T R E (Option A) S) where
-  -- a call with this start has come to this turn, which began at that place
+  -- a call that began so has come to a turn that runs so and began at that place
   pub record ReachesBlock (first : Bool) (state : UntilState V S) (old : View P T) (earlier : Failures) (turn_first : Bool) (turn_state : S) (place now : View P T) (later : Failures) (s : TurnsSoFar Bool c.Held) : Type 0 where
     pub before : ℕ
     pub beyond : ℕ
@@ -82,7 +82,7 @@ module _ {P T R A V S E : Type 0} (w : World P T S E) (errors : Observers T R P 
     collected = u.collected;
   }
 
-  -- the start of a call
+  -- where a call begins
   module _ {C : Type 0} (fresh valid : S → Type 0) (h : IsMeaning fresh valid m) (old now : View P T) (earlier later : Failures) (marks : C → View P T → Type 0) (place : C) where
     from_nothing : (k : KeptBlocks V S) (into : V) → HoldsNothing fresh into k → c.held into ≡ c.none → (b : Bool) (v : View P T) (o : Outcome V) → Until w.step c m.whole k.before k.beyond (begun m b k.running) (blocks_so_far c.held k.blocks) v o → Until w.step c m.whole 0 0 m.whole (no_blocks c.none) v o
     from_nothing k into a e b v o u =
@@ -118,7 +118,7 @@ module _ {P T R A V S E : Type 0} (w : World P T S E) (errors : Observers T R P 
       resets = y;
     }
 
-  -- a turn that begins afresh runs the same in each mode
+  -- a turn that begins afresh runs so in each mode
   pub reaches_afresh : (fresh valid : S → Type 0) → IsMeaning fresh valid m → (first : Bool) (state : UntilState V S) (old : View P T) (earlier : Failures) (mode : Bool) (s : S) (place now : View P T) (later : Failures) (f : TurnsSoFar Bool c.Held) → fresh s → ReachesBlock first state old earlier true s place now later f → ReachesBlock first state old earlier mode s place now later f
   reaches_afresh fresh valid h first state old earlier true s place now later f d z = z
   reaches_afresh fresh valid h first state old earlier false s place now later f d z = record {
@@ -134,7 +134,7 @@ module _ {P T R A V S E : Type 0} (w : World P T S E) (errors : Observers T R P 
     resets = z.resets;
   }
 
-  -- the turns before the running one, and the running one
+  -- what is known of the turns that came before, and of the one that runs
   module _ (u : CallRecord P T (UntilState V S)) (r : CallRecord P T S) (place : View P T) (b : Blocks V) (z : ReachesBlock u.first u.state u.old u.before r.first r.state place r.old r.before (blocks_so_far c.held b)) where
     come : Takes w.step (z.before + z.beyond) u.old r.old
     come = takes_more w.step z.before z.beyond u.old place r.old z.there z.on
@@ -209,7 +209,7 @@ module _ {P T R A V S E : Type 0} (w : World P T S E) (errors : Observers T R P 
           collected = q;
         })))
 
-    -- nothing is kept, and the stream stays where the turn left it
+    -- nothing is kept, and nothing is done to the stream behind the turn
     pub record Quits : Type 0 where
       pub new : u.new ≡ r.new
       pub left : u.left ≡ Begin
@@ -284,7 +284,7 @@ module _ {P T R A V S E : Type 0} (w : World P T S E) (errors : Observers T R P 
     until_fails marked e (BlockUnstored k a y) q = record { is = rw k (λ f l. a l.1, leaves q y) }
     until_fails marked e (Unreset k a y) q = record { is = rw k (let i = z.resets in rw q.after (omega arith), leaves q y) }
 
-    -- over a cut inside the running turn
+    -- over a cut inside the turn that runs
     cut_back : (p : Asks w m r) (g : Bool) → g ≡ (b.took_before || nat_lt 0 p.count) → (x : List T) (e : Bool) (o : Outcome V) → MayFollow u.old.is_open x e → Until w.step c m.whole z.before (z.beyond + p.count) (m.rest r.left) (record { mark = g; held = c.held b.into; committed = b.committed }) (extended x e u.old) o → Until w.step c m.whole z.before z.beyond (begun m r.first r.state) (blocks_so_far c.held b) (extended x e u.old) o
     cut_back p g i x e o f t = by_blocks t.blocks t.last t.divided t.joined t.folded
       where
@@ -372,7 +372,7 @@ module _ {P T R A V S E : Type 0} (w : World P T S E) (errors : Observers T R P 
     broken kinds.Memory h x y l = absurd h
     broken kinds.Lost h x y l = absurd h
 
-    -- need of more with its distances kept, or a fault if they couldn't be measured
+    -- need of more, whose distances are kept, or could not be measured
     pub until_more : (marked begins stood : View P T → Type 0) (n : Blocks V) (e : E) (given : UntilState V S) (result : ParseResult V E) → BlockNeedsMore w m c r marked b n e → begins u.old → stood place → KeepsBlocks w.counts_failures w.step w.kind begins stood r.new u.new r.after u.after n r.left e given u.left result → given ≡ Begin → r.before.reads ≤ r.after.reads → r.before.resets ≤ r.after.resets → Answers (around w until_fresh) (until w.step errors c m) u result
     until_more marked begins stood n e given result p i j h k x y = by_kept (h.is u.old place z.before (z.beyond + a.count) i j z.there (takes_more w.step z.beyond a.count place r.old r.new z.on a.taken))
       where
@@ -383,14 +383,14 @@ module _ {P T R A V S E : Type 0} (w : World P T S E) (errors : Observers T R P 
         by_kept (inl q) = rw q.answer (needs w until_fresh m (until w.step errors c m) r u e p.needs p.answers same_mark (λ _. asks a p.took_before (p.cut a.count a.taken) q.back q.failures (q.state ∙ ap (λ t. At (record { before = z.before; beyond = z.beyond + a.count; blocks = t; running = r.left })) p.blocks)))
         by_kept (inr q) = rw q.answer (record { is = broken (w.kind q.error) q.broke x y (record { count = q.moves.count; taken = q.moves.taken; state = q.state ∙ k }) })
 
-    -- the result of blocks that stop with this reason
+    -- what blocks answer that stop so
     pub until_settled : (marked begins stood : View P T → Type 0) (why : BlockStop V E) (given : UntilState V S) (result : ParseResult V E) → blocks_halted w m c r marked b why → SettlesBlocks w.counts_failures w.step w.kind begins stood r.new u.new r.after u.after r.left given u.left result why → given ≡ Begin → marked place → begins u.old → stood place → r.before.reads ≤ r.after.reads → r.before.resets ≤ r.after.resets → Answers (around w until_fresh) (until w.step errors c m) u result
     until_settled marked begins stood (stop.Over n) given result h s g i j k x y = let q = s.is.1 in rw s.is.0 (until_ends marked n h i (record { new = q.view; left = q.state ∙ g; after = q.failures }))
     until_settled marked begins stood (stop.Refused t) given result h s g i j k x y = let q = s.is.1 in rw s.is.0 (until_refused t h (record { new = q.view; left = q.state ∙ g; after = q.failures }))
     until_settled marked begins stood (stop.More n e) given result h s g i j k x y = until_more marked begins stood n e given result h j k s.is g x y
     until_settled marked begins stood (stop.Failed e) given result h s g i j k x y = let q = s.is.1 in rw s.is.0 (until_fails marked e h (record { new = q.view; left = q.state ∙ g; after = q.failures }))
 
-  -- the kept distances could not be skipped
+  -- the kept distances could not be passed over
   pub until_short : (fresh valid : S → Type 0) → IsMeaning fresh valid m → (u : CallRecord P T (UntilState V S)) (k : KeptBlocks V S) (into : V) → HandsOutBlocks fresh into u.first u.state k → (j i : Kind) (e : E) → i ≡ losing j → w.kind e ≡ i → stops_distance w.counts_failures w.step u.old u.new u.before u.after (k.before + k.beyond) j → Moves w.step u.old u.new → u.left ≡ Begin → Answers (around w until_fresh) (until w.step errors c m) u (CommitErr e)
   until_short fresh valid h u k into a j i e q f s t l = record { is = rw (f, q) (by_kind j s) }
     where
@@ -414,7 +414,7 @@ module _ {P T R A V S E : Type 0} (w : World P T S E) (errors : Observers T R P 
       by_kind kinds.Reset y = absurd y
       by_kind kinds.Lost y = absurd y
 
--- the result of one turn is one of another parser that means the same
+-- what one turn did is what it did of another parser that means the same
 module _ {P T R A V S E : Type 0} (w : World P T S E) (c : Collecting (Option A) V) (m m' : Meaning P T R E (Option A) S) (h : MeansSame m m') (r : CallRecord P T S) (marked : View P T → Type 0) (b : Blocks V) where
   begun_back : (first : Bool) (o : Outcome (Option A)) → begun m' first r.state r.old o → begun m first r.state r.old o
   begun_back true o p = (h.whole r.old o).1 p
@@ -448,11 +448,11 @@ module _ {V S : Type 0} (fresh valid : S → Type 0) (h : (s : S) → fresh s �
   handed_so false Begin a v = h k.running a.running
   handed_so false (At j) a v = subst (λ (i : KeptBlocks V S). valid i.running) (sym a) v
 
-  -- the state that a call takes is valid
+  -- what is handed out is valid
   pub handed_valid : (first : Bool) (state : UntilState V S) → HandsOutBlocks fresh into first state k → until_valid valid state → valid k.running
   handed_valid first state o v = handed_so first state o.is v
 
--- a state that a call leaves is valid
+-- a state that is left is valid
 pub running_valid : {V S : Type 0} (valid : S → Type 0) (running : S) (given left : UntilState V S) → valid running → given ≡ Begin → KeepsRunning running given left → until_valid valid left
 running_valid valid running given left v g k = by_case k.is
   where

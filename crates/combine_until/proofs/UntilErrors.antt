@@ -1,4 +1,4 @@
--- the errors of blocks up to a place: each turn leads to the errors of the next, and each way out has one of them
+-- the errors of blocks up to a place: each turn goes on to those of the next, and a way out has one of them
 use Rattle.std.proofs.Common.{ℕ, ◌+◌, ◌≤◌, ◌≡◌, ◌⊎◌, inl, inr, List, [], ◌∷◌, Bool, true, false, ◌||◌, ◌&&◌, Option, Some, length, ap, arith, sym, subst, refl, ◌∙◌, nat_lt}
 use Rattle.combine_base.specs.Error.Errors.{Observers}
 use Rattle.combine_base.specs.Distances.{stops_distance, losing}
@@ -52,17 +52,17 @@ module _ {P T R A S E : Type 0} (m : Meaning P T R E (Option A) S) where
   begins_into laws true s d = record { reads = λ v o x. x; refuses = λ v w k e x. x }
   begins_into laws false s d = record { reads = λ v o. (laws.start s v o d).0; refuses = λ v w k e. (laws.reasons s d v w k e).0 }
 
-  -- the first start may have more outcomes and errors
+  -- what runs first may have more outcomes and errors
   first_into : (step : P → T → P) (errors : Observers T R P E) (bs : List (Block (Option A))) (s s' : Start P T E (Option A)) → StartsInto s s' → (b : Bool) (v w : View P T) (k : Bool) (e : E) → blocks_refuse step errors m bs s b v w k e → blocks_refuse step errors m bs s' b v w k e
   first_into step errors = blocks_into errors m m (λ x. x) (λ is x. x) step (record { reads = λ v o x. x; refuses = λ v w k e x. x })
 
 module _ {P T R A V S E : Type 0} (step : P → T → P) (errors : Observers T R P E) (c : Collecting (Option A) V) (m : Meaning P T R E (Option A) S) where
-  -- a call with this start has come to a place whose start is this one: its errors are among those of the call
+  -- a call that began so has come to a place where what runs does so: its errors are among those of the call
   pub record LeadsTo (first : Bool) (given : UntilState V S) (old : View P T) (turn_first : Bool) (running : S) (took_before : Bool) (now : View P T) : Type 0 where
     pub refuses : (bs : List (Block (Option A))) (w : View P T) (k : Bool) (e : E) → blocks_refuse step errors m bs (started m turn_first running) took_before now w k e → begun_refuses (until step errors c m) first given old w k e
 
   module _ {fresh valid : S → Type 0} (laws : IsMeaning fresh valid m) where
-    -- the start of a call
+    -- where a call begins
     module _ (k : KeptBlocks V S) (into : V) (old now : View P T) (enough : k.before + k.beyond ≤ length old.unread) (there : now ≡ advanced step (k.before + k.beyond) old) where
       from_nothing : (first : Bool) → HoldsNothing fresh into k → (bs : List (Block (Option A))) (w : View P T) (j : Bool) (e : E) → blocks_refuse step errors m bs (started m first k.running) k.blocks.took_before now w j e → RefusesUntil step errors m 0 (from_start m) false old w j e
       from_nothing first a bs w j e x =
@@ -99,7 +99,7 @@ module _ {V E : Type 0} (kind : E → Kind) (is_open : Bool) (says : Bool → E 
   broken_reasons e kinds.Memory before after i h = absurd h
   broken_reasons e kinds.Lost before after i h = absurd h
 
-  -- the kept distances could not be skipped
+  -- the kept distances could not be passed over
   pub short_reasons : {P T : Type 0} (counts_failures : Type 0) (step : P → T → P) (old new : View P T) (before after : Failures) (n : ℕ) (j k : Kind) (e : E) → k ≡ losing j → kind e ≡ k → stops_distance counts_failures step old new before after n j → Reasoned {V = V} kind is_open says (CommitErr e)
   short_reasons counts_failures step old new before after n kinds.End k e q i h = reasons_fault kind is_open says e kinds.Lost (i ∙ q) tt
   short_reasons counts_failures step old new before after n kinds.Read k e q i h = reasons_fault kind is_open says e kinds.Read (i ∙ q) tt
@@ -108,7 +108,7 @@ module _ {V E : Type 0} (kind : E → Kind) (is_open : Bool) (says : Bool → E 
   short_reasons counts_failures step old new before after n kinds.Reset k e q i h = absurd h
   short_reasons counts_failures step old new before after n kinds.Lost k e q i h = absurd h
 
--- the result of blocks that stop with this reason
+-- an answer of blocks that stop so
 module _ {P T R A V S E : Type 0} (step : P → T → P) (errors : Observers T R P E) (counts_failures : Type 0) (fresh : S → Type 0) (c : Collecting (Option A) V) (m : Meaning P T R E (Option A) S) (r : CallRecord P T S) (marked : View P T → Type 0) (b : Blocks V) (first : Bool) (given : UntilState V S) (old new : View P T) (after : Failures) (z : LeadsTo step errors c m first given old r.first r.state b.took_before r.old) where
   abbrev part : World P T S E
   part = world step errors counts_failures fresh
@@ -116,7 +116,7 @@ module _ {P T R A V S E : Type 0} (step : P → T → P) (errors : Observers T R
   abbrev says : Bool → E → Type 0
   says = begun_refuses (until step errors c m) first given old new
 
-  -- need of more with its distances kept, or a fault if they couldn't be measured
+  -- need of more, whose distances are kept, or could not be measured
   more_reasons : (begins stood : View P T → Type 0) (n : Blocks V) (e : E) (none left : UntilState V S) (result : ParseResult V E) → BlockNeedsMore part m c r marked b n e → KeepsBlocks counts_failures step errors.kind begins stood r.new new r.after after n r.left e none left result → (place : View P T) → begins old → stood place → (before beyond : ℕ) → Takes step before old place → Takes step beyond place r.old → Reasoned errors.kind new.is_open says result
   more_reasons begins stood n e none left result p h place i j before beyond there on = by_kept (h.is old place before (beyond + a.count) i j there all)
     where

@@ -1,4 +1,4 @@
--- the result of one turn of blocks up to a place
+-- what one turn of blocks up to a place did
 use Rattle.std.proofs.Common.{ℕ, ◌+◌, ◌<◌, ◌≤◌, ◌≡◌, Bool, true, false, ◌||◌, ◌&&◌, nat_lt, if◌then◌else◌, Option, length, drop, arith, ap, refl, sym, ◌∙◌, length-drop, ltb-true}
 use Rattle.combine_base.specs.Stream.View.{View, Takes, Moves}
 use Rattle.combine_base.specs.Parser.Meaning.{Meaning}
@@ -18,7 +18,7 @@ module _ {P T R A S E : Type 0} {w : World P T S E} {m : Meaning P T R E (Option
   pub accepts_value : {r : CallRecord P T S} {x : Option A × Bool} {a y : Option A} {k : Bool} → x ≡ (a, k) → x.0 ≡ y → Accepts w m r a k → Accepts w m r y x.1
   accepts_value {r} {x} e f p = let q : Accepts w m r x.0 x.1 = rw e p in rw f at q
 
-  -- the stream could not be put back after that acceptance
+  -- the stream could not be put back behind that acceptance
   pub unreset_by : {V : Type 0} {c : Collecting (Option A) V} {first : Bool} {state left : S} {old now new : View P T} {before later after : Failures} {a : Option A} {k : Bool} {marked : View P T → Type 0} {b : Blocks V} → Accepts w m (record { first = first; state = state; left = left; old = old; new = now; before = before; after = later }) a k → (d : Kind) → (d ≡ kinds.Reset) × Moves w.step now new × (later.resets < after.resets) → before.resets ≤ later.resets → (e : E) → w.kind e ≡ d → HasBlockFailed w m c (record { first = first; state = state; left = left; old = old; new = new; before = before; after = after }) marked b e
   unreset_by {old} {now} {new} p d h i e q =
       let x = h.1 in
@@ -33,7 +33,7 @@ module _ {P T R A V S E : Type 0} (w : World P T S E) (m : Meaning P T R E (Opti
       let x = h a.count a.taken in
       record { needs = q; answers = p; took_before = new.took_before; cut = λ n t. ap (λ (b : Blocks V). b.took_before) (h n t); blocks = rw x refl }
 
-  -- a block takes a token, or took one before a cut, where the next one hasn't
+  -- a block takes a token, or took one before a cut, which the next one didn't
   pub blocks_shrink : IsUntilBlock w m c r marked old new → length r.new.unread + (if new.took_before then 1 else 0) < length r.old.unread + (if old.took_before then 1 else 0)
   blocks_shrink g = rw (ap (λ s. s.mark) g.blocks) (by_begun old.took_before g.takes)
     where
@@ -51,7 +51,7 @@ module _ {P T R A V S E : Type 0} (w : World P T S E) (m : Meaning P T R E (Opti
       by_begun true e = let f = fewer in omega arith
       by_begun false e = let f = fewer in let p = ltb-true 0 g.accepts.count (both g.committed (nat_lt 0 g.accepts.count) e) in omega arith
 
--- why a distance was not skipped, some tokens later
+-- why a distance was not passed over, some tokens later
 pub stops_later : {P T : Type 0} (counts_failures : Type 0) (step : P → T → P) (n d : ℕ) (old mid new : View P T) (before later after : Failures) (k : Kind) → Takes step n old mid → before.reads ≤ later.reads → stops_distance counts_failures step mid new later after d k → stops_distance counts_failures step old new before after (n + d) k
 stops_later counts_failures step n d old mid new before later after kinds.End t i s =
     let a = t.enough in

@@ -1,4 +1,4 @@
--- a parser that means the same as another, and adds nothing to errors
+-- a parser that means what another does, and adds nothing to errors
 use Rattle.combine_base.specs.Error.Errors.{AddsNothing}
 use Rattle.combine_base.specs.Parser.Meaning.{Meaning, Alike, IsMeaning, MeansOne, MeansSame}
 

@@ -1,4 +1,4 @@
--- the parser at each place: one whose acceptance ends the blocks, and where it is refused peeked, the parser of a block
+-- what runs at each place: a parser whose acceptance ends the blocks, and where it is refused peeked, the parser of a block
 use Rattle.std.specs.Prelude.{ℕ, ◌≡◌, Bool, true, false, Option, Some, None, refl, is_none}
 use Rattle.std.proofs.Common.{sym, ◌∙◌}
 use Rattle.combine_base.specs.Stream.View.{View}
@@ -40,7 +40,7 @@ module _ {P T A B : Type 0} where
   alike e r h v a a' n k (Later d p) (Later i q) = some_given r v a n k p ∙ sym (some_given r v a' n k q)
 
   module _ {R E S U : Type 0} where
-    -- a parser, or else a block, with the error of the block alone
+    -- a parser, or else a block, whose refusal is its own
     abbrev pub next : Meaning P T R E B U → Meaning P T R E A S → Meaning P T R E (Option A) (OrState U S)
     next end part = either_of second_alone (mapped end (Picks absent)) (mapped part (Picks present))
 

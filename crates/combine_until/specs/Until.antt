@@ -1,4 +1,4 @@
--- blocks of a parser, up to the first place where it gives `None`, all put back on need of more: the errors of refusals, the meaning, and its laws
+-- blocks of a parser, up to the first place where it says that they end, all put back on need of more: which error a refusal has, what they mean, and their laws
 use Rattle.std.specs.Prelude.{ℕ, ◌+◌, ◌≡◌, ◌≤◌, Bool, true, false, ◌||◌, ◌&&◌, nat_lt, List, [], ◌∷◌, length, Option, Some, None, codes, ◌⊎◌, ◌<◌, refl, ◌↔◌, is_none}
 use Rattle.combine_base.specs.Stream.View.{View, advanced, extended}
 use Rattle.combine_base.specs.Parser.Outcome.{Outcome, Accepted, Refused, Undecided, shape, after, IsDecided, IsCommitted, both_false, decided_shape}
@@ -19,7 +19,7 @@ use Rattle.std.proofs.Common.{arith, ap, sym, subst, ◌∙◌, inl, inr, length
 use Rattle.combine_base.specs.Sequence.PartErrors.{refusal_into}
 use Rattle.combine_base.specs.Stream.Advance.{advanced_extended, open_follows, took_before_over}
 
--- an accepted value is a block if it took a token, in this piece or before a cut; else it takes nothing and is refused, committed
+-- an accepted value is a block where it took a token, now or before a cut; else it takes nothing and is refused, committed
 abbrev pub block_at : Bool → Verdict
 block_at true = TakesBlock
 block_at false = StopsTurns (Refused true)
@@ -30,22 +30,22 @@ until_judged g (Accepted (Some a) n k) = block_at (k && (g || nat_lt 0 n))
 until_judged g (Refused k) = StopsTurns (Refused k)
 until_judged g Undecided = StopsTurns Undecided
 
--- blocks, each of which takes a token, up to `None`; the mark is whether the running one took a token before a cut
+-- blocks, each of which takes a token, up to no value; the mark says whether the running one took a token before a cut
 abbrev pub until_rule : {A : Type 0} → Rule (Option A) Bool
 until_rule = record { full = λ g. false; judge = until_judged; next = λ g. false; cut = λ g n. g || nat_lt 0 n }
 
--- the number of tokens before the stop: the running turn begins after `before` tokens, and resumes after `beyond` more
+-- where the blocks stop: what runs first begins after so many tokens, and goes on that many beyond
 abbrev pub stop_at : {A : Type 0} → ℕ → ℕ → List (Block A) → ℕ
 stop_at before beyond [] = before
 stop_at before beyond (b ∷ bs) = before + beyond + taken (b ∷ bs)
 
--- an acceptance takes only the blocks' tokens, and is committed if there are any, or if a block or the end is; a refusal stays committed or peeked
+-- an acceptance has the tokens of the blocks alone, and is committed if there are any; a refusal keeps its kind
 abbrev pub stopped_at : ℕ → Bool → Outcome (Unit {0}) → Outcome (Unit {0})
 stopped_at n k (Accepted t m j) = Accepted tt n (nat_lt 0 n || (k || j))
 stopped_at n k (Refused j) = Refused j
 stopped_at n k Undecided = Undecided
 
--- the value, if there is one, at the end of the contents
+-- the value, if there is one, at the end of what is collected
 abbrev pub some_at_end : {A Held : Type 0} → (Held → A → Held) → Held → Option A → Held → Type 0
 some_at_end more h None i = i ≡ h
 some_at_end more h (Some a) i = i ≡ more h a
@@ -73,7 +73,7 @@ module _ {P T A V : Type 0} (step : P → T → P) (c : Collecting (Option A) V)
 abbrev pub no_blocks : {Held : Type 0} → Held → TurnsSoFar Bool Held
 no_blocks h = record { mark = false; held = h; committed = false }
 
--- the blocks so far, of the kept ones
+-- what is kept says of the blocks so far
 abbrev pub blocks_so_far : {V Held : Type 0} → (V → Held) → Blocks V → TurnsSoFar Bool Held
 blocks_so_far held b = record { mark = b.took_before; held = held b.into; committed = b.committed }
 
@@ -85,7 +85,7 @@ abbrev pub until_valid : {V S : Type 0} → (S → Type 0) → UntilState V S �
 until_valid valid Begin = Unit {0}
 until_valid valid (At k) = valid k.running
 
--- the turn at a place is accepted with a value, but took no token, in this piece or before a cut
+-- what runs at a place is accepted with a value, but takes no token, nor did it before a cut
 pub record IsIdle {P T R A E : Type 0} (errors : Observers T R P E) (r : Reading P T (Option A)) (took_before : Bool) (v : View P T) (e : E) : Type 0 where
   pub value : A
   pub count : ℕ
@@ -95,18 +95,18 @@ pub record IsIdle {P T R A E : Type 0} (errors : Observers T R P E) (r : Reading
   pub says : HasItems errors kinds.Refused v.position (Only (Message (Fixed (codes "repetition takes nothing")))) e
 
 module _ {P T R A S E : Type 0} (errors : Observers T R P E) (m : Meaning P T R E (Option A) S) where
-  -- A place refuses: its turn is refused committed, or takes nothing; or it is refused peeked, put back to the place, and explained.
+  -- A place refuses: what runs there is refused committed, or takes nothing; or it is refused peeked, and then it was put back to there and explained.
   abbrev pub place_refuses : Start P T E (Option A) → Bool → Refusing P T E
   place_refuses s took_before v w true e = MeantRefusal s.reads s.refuses v w true e ⊎ IsIdle errors s.reads took_before v e
   place_refuses s took_before v w false e = ExplainsRefusal errors m (MeantRefusal s.reads s.refuses) v w e
 
 module _ {P T R A S E : Type 0} (step : P → T → P) (errors : Observers T R P E) (m : Meaning P T R E (Option A) S) where
-  -- these blocks are taken, one after another, and then a place refuses; the turn at a later place begins there
+  -- these blocks are taken, one after another, and then a place refuses; what runs at a later place begins there
   abbrev pub blocks_refuse : List (Block (Option A)) → Start P T E (Option A) → Bool → Refusing P T E
   blocks_refuse [] s took_before v w k e = place_refuses errors m s took_before v w k e
   blocks_refuse (b ∷ bs) s took_before v w k e = s.reads v (outcome b) × (until_judged took_before (outcome b) ≡ TakesBlock) × blocks_refuse bs (from_start m) false (advanced step b.count v) w k e
 
-  -- The error of a refusal is the error of the first place that refuses, after the blocks; the running turn resumes `distance` tokens after the start. It is peeked if that turn is refused peeked, for any tokens taken before.
+  -- The error of a refusal is that of the first place that refuses, behind the blocks before it; what runs first stands so many tokens on. It is peeked where what runs there is refused peeked, whatever was taken before.
   pub record RefusesUntil (distance : ℕ) (s : Start P T E (Option A)) (took_before : Bool) (v w : View P T) (committed : Bool) (e : E) : Type 0 where
     pub enough : distance ≤ length v.unread
     pub blocks : List (Block (Option A))
@@ -122,7 +122,7 @@ module _ {P T R E A V S : Type 0} (step : P → T → P) (c : Collecting (Option
   until_lost Begin v = ⊥
   until_lost (At k) v = LosesTry step (k.before + k.beyond) (m.lost k.running) v
 
--- the errors from a kept state: the running turn resumes after the kept distance
+-- the errors from a kept state: what runs first goes on behind the distance that is kept
 abbrev pub until_refuses_from : {P T R E A V S : Type 0} → (P → T → P) → Observers T R P E → Meaning P T R E (Option A) S → UntilState V S → Refusing P T E
 until_refuses_from step errors m Begin v w k e = RefusesUntil step errors m 0 (from_start m) false v w k e
 until_refuses_from step errors m (At j) v w k e = RefusesUntil step errors m (j.before + j.beyond) (from_state m j.running) j.blocks.took_before v w k e

@@ -1,4 +1,4 @@
--- the parsers that the constructors return, and their parts; and how skipping and collecting repetitions relate
+-- the parsers that the constructors build, and their parts; and repetitions up to a place beside one another
 use Rattle.std.specs.declared.alloc.Global.{Global}
 use Rattle.combine_base.specs.Error.Errors.{Observers}
 use Rattle.combine_base.specs.Parser.Meaning.{Meaning}
@@ -40,7 +40,7 @@ muted_part p = p.part
 abbrev pub blocks_of : {F A X Y : Type 0} → Global → X → Y → BlocksUntil F A X Y
 blocks_of alloc part end = record { alloc = alloc; turn = next_of part end; collects = record {} }
 
--- only the block's parser adds expected items
+-- the block's parser alone says what it expects
 abbrev pub repeat_until_of : {F A X Y : Type 0} → Global → X → Y → BlocksUntil F A X (Mute Y)
 repeat_until_of alloc part end = blocks_of alloc part (mute_of end)
 
@@ -82,6 +82,6 @@ module _ {P T R E A B S U : Type 0} (step : P → T → P) (errors : Observers T
   abbrev pub repeat_skip_until : Meaning P T R E A S → Meaning P T R E B U → Meaning P T R E Unit (UntilState Sink (OrState U S))
   repeat_skip_until part end = mapped (repeat_until step errors (some_dropped {V = Sink}) part end) (Picks drops_value)
 
-  -- outcomes of the same shape, and the first collects the values that the second drops
+  -- they take the same tokens, accepted or refused alike, and the first collects what the second drops
   abbrev pub RepeatOrSkip : {V : Type 0} → Collecting (Option A) V → Meaning P T R E A S → Meaning P T R E B U → Type 0
   RepeatOrSkip c part end = DropsValues c (repeat_until step errors c part end).whole (repeat_skip_until part end).whole

@@ -1,4 +1,4 @@
--- the contracts of the parts of the loop, and of a turn, by the stream before and after them
+-- what the calls promise of which blocks up to a place are made; the call of a turn, by the stream before and after it
 use Rattle.std.specs.Prelude.{ℕ, ◌+◌, ◌<◌, ◌≡◌, ◌⊎◌, Bool, true, false, ◌||◌, ◌&&◌, nat_lt, Option, Some, None, Result, Ok, Err}
 use Rattle.combine_base.specs.Stream.View.{View, Takes, Moves}
 use Rattle.combine_base.specs.Distances.{stops_distance}
@@ -41,12 +41,12 @@ handed fresh into true s k = HoldsNothing fresh into k
 handed fresh into false Begin k = HoldsNothing fresh into k
 handed fresh into false (At j) k = k ≡ j
 
--- the start of a call, afresh or not
+-- what a call begins with, afresh or not
 pub record HandsOutBlocks {V S : Type 0} (fresh : S → Type 0) (into : V) (first : Bool) (state : UntilState V S) (k : KeptBlocks V S) : Type 0 where
   pub is : handed fresh into first state k
 
 module _ {P T C : Type 0} (counts_failures : Type 0) (step : P → T → P) (stands : C → View P T → Type 0) (old new : View P T) (earlier later : Failures) (before beyond : ℕ) where
-  -- the place is `before` tokens from here, and the stream is `beyond` tokens after it
+  -- the place is so many tokens from here, and the stream stands beyond it
   pub record IsPlaceAhead (place : C) : Type 0 where
     pub at : View P T
     pub first : Takes step before old at
@@ -72,7 +72,7 @@ module _ {P T R A V S E : Type 0} (w : World P T S E) (m : Meaning P T R E (Opti
     pub more : c.more (c.held old.into) (Some value) held
     pub blocks : blocks_so_far c.held new ≡ record { mark = false; held = held; committed = old.committed || committed }
 
-  -- its parser gives `None`, and the stream is put back to where it began
+  -- its parser says that the blocks end, and the stream is put back to where it began
   pub record EndsHere (new : Blocks V) : Type 0 where
     pub count : ℕ
     pub committed : Bool
@@ -150,7 +150,7 @@ module _ {P T E V S : Type 0} (counts_failures : Type 0) (step : P → T → P) 
       pub is : (start place : View P T) (before beyond : ℕ) → begins start → stands place → Takes step before start place → Takes step beyond place old → HasKept start before beyond ⊎ HasBroken start
 
   module _ (running : S) (given left : UntilState V S) (result : ParseResult V E) where
-    -- the stream is unchanged
+    -- nothing is done to the stream
     pub record LeavesStream : Type 0 where
       pub view : new ≡ old
       pub failures : later ≡ earlier
@@ -162,11 +162,11 @@ module _ {P T E V S : Type 0} (counts_failures : Type 0) (step : P → T → P) 
     settles_blocks (stop.More n e) = KeepsBlocks n running e given left result
     settles_blocks (stop.Failed e) = (result ≡ CommitErr e) × LeavesStream
 
-    -- the result of blocks that stop with this reason
+    -- what blocks answer that stop so
     pub record SettlesBlocks (why : BlockStop V E) : Type 0 where
       pub is : settles_blocks why
 
--- a state is left unchanged, or keeps the running parser's
+-- a state is left as it was, or keeps the running part's
 pub record KeepsRunning {V S : Type 0} (running : S) (given left : UntilState V S) : Type 0 where
   pub is : (left ≡ given) ⊎ ((k : KeptBlocks V S) × (left ≡ At k) × (k.running ≡ running))
 

@@ -1,4 +1,4 @@
-//! Repetitions up to the first place where another parser isn't refused peeked.
+//! Repetitions up to a place.
 #![tactic(auto)]
 
 mod mute;

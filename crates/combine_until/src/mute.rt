@@ -1,4 +1,4 @@
-//! `Mute`, a parser that adds nothing to errors.
+//! A parser that says nothing of what it expects.
 ghost use Rattle.std.specs.Prelude.{◌≡◌};
 ghost use Rattle.combine_until.specs.Mute.{mute, mute_is_meaning, mute_means_one};
 ghost use Rattle.combine_until.specs.UntilParsers.{mute_of, muted_part};
@@ -7,7 +7,7 @@ use combine_base::error::{ErrorOffset, ParseResult, Tracked};
 use combine_base::parser::{Outputs, ParseMode, Parser};
 use combine_base::stream::Stream;
 
-/// Parses as its part, but adds nothing to errors. Our own.
+/// As its part, but that it adds nothing to errors. Our own.
 #[derive(Clone, Copy, Drop)]
 pub struct Mute<P> {
     part: P,

@@ -1,4 +1,4 @@
-//! The parser that runs at each place of a repetition up to a place: `end`, or else the parser of a block. It chooses as `or` does, except that a refusal has only the error of the block.
+//! What runs at each place of a repetition up to a place: the parser that ends it, or else that of a block. It chooses as `or` does, but a refusal is that of the block alone.
 ghost use Rattle.std.specs.Prelude.{◌≡◌};
 ghost use Rattle.combine_choice.specs.Choice.ChoiceCalls.{ChoseCall};
 ghost use Rattle.combine_choice.specs.Choice.Or.{either_of, or_valid};
@@ -14,7 +14,7 @@ use combine_choice::or::first::FirstResult;
 use combine_combinator::combinator::types::{Pick, Picked};
 use std::marker::PhantomData;
 
-/// Keeps the value.
+/// The value is kept.
 #[derive(Clone, Copy, Drop)]
 pub struct Present;
 
@@ -38,7 +38,7 @@ impl<A: Drop> Pick<A> for Present {
     }
 }
 
-/// Drops the value, of any type, and has none of type `A`.
+/// The value is dropped, where there could be one of another type.
 #[derive(Drop)]
 pub struct Absent<A>(PhantomData<A>);
 
@@ -63,7 +63,7 @@ impl<A: Drop, B: Drop> Pick<B> for Absent<A> {
     }
 }
 
-/// Runs `end`, whose acceptance gives `None`, or if that is refused peeked, `part`, whose result is the result.
+/// A parser whose acceptance gives no value; or where it is refused peeked, one whose result is the result.
 #[derive(Drop)]
 #[derive_where(Clone, Copy; P, E)]
 pub struct Next<A, P, E> {
@@ -84,7 +84,7 @@ impl<A, P, E> Next<A, P, E> {
     }
 }
 
-/// Chooses as `or` does, but if both are refused peeked, the error is that of the second.
+/// Chooses as `or` does; but where both are refused peeked, the error is that of the second.
 #[inline(always)]
 fn choose_next<Input: Stream, E: Parser<Input>, P: Parser<Input, Output = E::Output>, M: ParseMode>(
     end: &mut E,
@@ -107,7 +107,7 @@ fn choose_next<Input: Stream, E: Parser<Input>, P: Parser<Input, Output = E::Out
     }
 }
 
-/// The state of the parser that runs.
+/// The state of the one that runs.
 pub type NextState<Input, P, E> = OrState<
     <E as Parser<Input>>::PartialState,
     <P as Parser<Input>>::PartialState,
@@ -145,7 +145,7 @@ impl<Input: Stream, A: Drop, P: Parser<Input, Output = A>, E: Parser<Input>> Par
         choose_next(&mut self.end, &mut self.part, mode, input, state)
     }
 
-    /// Adds the items of the first parser, and then those of the second.
+    /// Adds what the first adds, and then what the second does.
     fn add_error(&mut self, error: &mut Tracked<Input::Error>) {
         self.end.add_error(error);
         self.part.add_error(error);

@@ -1,12 +1,12 @@
 //! Repetitions up to a place: the blocks before the first place where a parser `end` isn't refused peeked.
 //!
-//! If `end` is accepted there, its tokens are put back, and the result is accepted, committed exactly if a block or `end` was. Every other result of `end` there, or of the parser of the blocks, is the result: a refusal stays committed or peeked, even after committed blocks, and the tokens of the blocks may be taken or not. combine loses whether it is committed.
+//! If `end` is accepted there, its tokens are put back, and the result is accepted, committed exactly if a block or `end` was. Every other result of `end` there, or of the parser of the blocks, is the result: a refusal keeps its kind, also after committed blocks, with the tokens of the blocks taken or not. The crate loses the kind.
 //!
-//! On need of more the stream is put back to where the parser began, but nothing begins again. The state keeps the distance that was read, in tokens, the part of it before the running parser began, the blocks so far, and that parser's state. The next call skips the distance and goes on. combine puts back only the tokens of `end`.
+//! On need of more the stream is put back to where the parser began, but nothing begins again. The state keeps the distance that was read, in tokens, how much of it stands before the place where the running part began, the blocks so far, and the state of that part. The next call passes over the distance and goes on. The crate puts back the tokens of `end` alone.
 //!
 //! Faults are those of the parsers, `Reset` if the stream can't be put back, `Read` if the distance can't be read again, `Lost` if the input is shorter than a kept distance, and `Memory` if the collection can't grow.
 //!
-//! The values are collected in any `F: Append`, for which the constructors take an allocator first; combine takes `F: Extend + Default`, and no allocator. The skipping forms drop the values, and allocate nothing of their own but an error's items.
+//! The values are collected in any `F: Append`, for which the constructors take an allocator first; the crate takes `F: Extend + Default`, and no allocator. The skipping forms drop the values, and take no memory of their own, but for that of an error's items.
 ghost use Rattle.std.specs.Prelude.{◌≡◌};
 ghost use Rattle.combine_until.specs.UntilParsers.{repeat_skip_until_of, repeat_until_of, skip_until_of, take_until_of};
 
@@ -23,25 +23,25 @@ use types::{
     BlocksUntil, Mute, RepeatUntil, SkipBlocksUntil, SkipRepeatUntil, SkipUntil, TakeUntil,
 };
 
-/// Runs `parser` up to the first place where `end` isn't refused peeked, and collects its values in order.
+/// Takes blocks of `parser` up to the first place where `end` isn't refused peeked, and collects their values in order.
 ///
 /// The tokens of `end` are put back. The acceptance is committed exactly if a block or `end` was.
 ///
 /// # Errors
 ///
-/// - Every other result of `end` there, or of `parser`, is the result. A refusal of `parser` has only its own error, with nothing of the error of `end`; if it is peeked, it has the items expected there.
+/// - Every other result of `end` there, or of `parser`, is the result. A refusal of `parser` has its error alone, with nothing of that of `end`; where it is peeked, it says what was expected there.
 /// - A block that takes nothing is refused, committed, with the message `repetition takes nothing`, at the position where it began.
 /// - Faults are those of the parsers, `Reset`, `Read` and `Lost` of the stream, and `Memory` if the collection can't grow.
 ///
-/// `add_error` adds the items of `parser`.
+/// What is added to an error is what `parser` adds.
 ///
 /// # Partial input
 ///
-/// On need of more the stream is put back to where the parser began, but nothing begins again: the next call skips the tokens that were read, and goes on.
+/// On need of more the stream is put back to where the parser began, but nothing begins again: the next call passes over what was read, and goes on.
 ///
 /// # Differences from combine
 ///
-/// combine puts back only the tokens of `end`, and over a cut loses whether a refusal is committed. It adds nothing to an error.
+/// The crate puts back the tokens of `end` alone, and loses the kind of a refusal over a cut. It adds nothing to an error.
 ///
 /// # Examples
 ///
@@ -64,9 +64,9 @@ pub fn repeat_until<F, A, P, E>(alloc: Global, parser: P, end: E) -> RepeatUntil
     }
 }
 
-/// Runs `parser` as `repeat_until` does, and drops the values.
+/// Takes blocks as `repeat_until` does, and drops the values.
 ///
-/// It allocates nothing of its own but an error's items.
+/// It takes no memory of its own, but for that of an error's items.
 #[inline]
 pub fn repeat_skip_until<A, P, E>(parser: P, end: E) -> SkipRepeatUntil<A, P, E>
     ensures { result ≡ repeat_skip_until_of parser end }
@@ -82,19 +82,19 @@ pub fn repeat_skip_until<A, P, E>(parser: P, end: E) -> SkipRepeatUntil<A, P, E>
 ///
 /// # Errors
 ///
-/// - If the input ends first, the result is refused peeked. The error is at that end, with the end as unexpected, and of the error of `end` it has only the items that `end` expects.
+/// - If the input ends first it is refused peeked. The error stands at that end, which it says is unexpected, and has nothing of that of `end` but what `end` expects.
 /// - Every other result of `end` is the result.
 /// - Faults are those of `end`, `Reset`, `Read` and `Lost` of the stream, and `Memory` if the collection can't grow.
 ///
-/// `add_error` adds the items of `end`.
+/// What is added to an error is what `end` adds.
 ///
 /// # Partial input
 ///
-/// On need of more the stream is put back to where the parser began, but nothing begins again: the next call skips the tokens that were read, and goes on.
+/// On need of more the stream is put back to where the parser began, but nothing begins again: the next call passes over what was read, and goes on.
 ///
 /// # Differences from combine
 ///
-/// combine puts back only the tokens of `end`, and over a cut loses whether a refusal is committed. It adds nothing to an error.
+/// The crate puts back the tokens of `end` alone, and loses the kind of a refusal over a cut. It adds nothing to an error.
 ///
 /// # Examples
 ///
@@ -118,7 +118,7 @@ pub fn take_until<F, Input, T, E>(alloc: Global, end: E) -> TakeUntil<F, Input, 
 
 /// Takes tokens as `take_until` does, and drops them.
 ///
-/// It allocates nothing of its own but an error's items.
+/// It takes no memory of its own, but for that of an error's items.
 #[inline]
 pub fn skip_until<Input, T, E>(end: E) -> SkipUntil<Input, T, E>
     ensures { result ≡ skip_until_of end }

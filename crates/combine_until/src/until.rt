@@ -1,4 +1,4 @@
-//! Blocks of a parser up to the first place where it gives `None`: the loop, and its kept state.
+//! Blocks of a parser up to the first place where it says that they end: the loop, and what is kept of it.
 ghost use Rattle.std.specs.Prelude.{◌≡◌, ◌||◌, ◌&&◌, ℕ, nat_lt, not, false, true, MatchResult};
 ghost use Rattle.combine_base.specs.Parser.AnswersCalls.{AnswersCall};
 ghost use Rattle.combine_base.specs.Parser.Meaning.{MeansSame};
@@ -19,7 +19,7 @@ use combine_base::stream::{Kind, Stream, has_taken, needs_more};
 use std::alloc::AllocError;
 use std::mem::replace;
 
-/// The blocks so far: the collection, whether one committed, and whether the running one took a token in an earlier piece.
+/// The blocks so far: what is collected, whether one was committed, and whether the running one took a token in an earlier piece.
 #[derive(Drop)]
 pub struct Blocks<F> {
     into: F,
@@ -39,7 +39,7 @@ impl<F> Blocks<F> {
         }
     }
 
-    /// Returns the blocks, committed if they were or `committed` is true.
+    /// Returns the blocks, committed if that is, or they were.
     #[inline(always)]
     fn or_committed(self, committed: bool) -> Blocks<F>
         ensures { result ≡ record { into = self.into; committed = self.committed || committed; took_before = self.took_before } }
@@ -93,7 +93,7 @@ impl<F> Blocks<F> {
         })
     }
 
-    /// Accepts the collection.
+    /// Accepts what is collected.
     #[inline(always)]
     fn end<E>(self) -> ParseResult<F, E>
         ensures { result ≡ accepted_as self.committed self.into }
@@ -107,9 +107,9 @@ impl<F> Blocks<F> {
     }
 }
 
-/// The state that is kept on need of more.
+/// What is kept while more input is needed.
 ///
-/// It has the number of tokens before the place where the running parser began, the number that it has read from there, the blocks, and its state.
+/// That is how many tokens stand before the place where the running part began, how many it has read beyond, the blocks, and its state.
 #[derive(Drop)]
 pub struct KeptBlocks<F, S> {
     before: u64,
@@ -119,7 +119,7 @@ pub struct KeptBlocks<F, S> {
 }
 
 impl<F, S: Default> KeptBlocks<F, S> {
-    /// Returns the state before anything is read.
+    /// Returns what is kept where nothing is read yet.
     #[inline(always)]
     fn nothing(into: F) -> KeptBlocks<F, S>
         ensures place { (result.before ≡ 0) × (result.beyond ≡ 0) }
@@ -140,7 +140,7 @@ impl<F, S: Default> KeptBlocks<F, S> {
 pub enum UntilState<F, S> {
     /// Nothing is kept, and the next call begins.
     Begin,
-    /// The next call skips the tokens that were read, and goes on.
+    /// The next call passes over what was read, and goes on.
     At(KeptBlocks<F, S>),
 }
 
@@ -154,7 +154,7 @@ impl<F, S> Default for UntilState<F, S> {
 }
 
 impl<F: Drop, S: Default + Drop> UntilState<F, S> {
-    /// Takes the kept state when resuming, else returns that of the start.
+    /// Hands out what a call begins with: what is kept, unless it begins afresh.
     #[inline(always)]
     fn hand_out(&mut self, first: bool, into: F) -> KeptBlocks<F, S>
         ensures out { HandsOutBlocks S.is_default into first self.old result }
@@ -176,15 +176,15 @@ impl<F: Drop, S: Default + Drop> UntilState<F, S> {
 pub enum BlockStop<F, E> {
     /// The blocks end there, accepted.
     Over(Blocks<F>),
-    /// A turn is refused peeked: there is no block.
+    /// No block is there, refused peeked.
     Refused(Tracked<E>),
-    /// The running turn needs more.
+    /// The running part needs more.
     More(Blocks<F>, E),
-    /// The running turn is refused committed, takes nothing, or met a fault.
+    /// The running part is refused committed, or met a fault; or a block takes nothing.
     Failed(E),
 }
 
-/// The outcome of a turn.
+/// What came of one turn.
 pub enum BlockStep<F, E> {
     /// It is a block, and the next one runs.
     Goes(Blocks<F>),
@@ -192,7 +192,7 @@ pub enum BlockStep<F, E> {
     Stops(BlockStop<F, E>),
 }
 
-/// Returns the kind of a failure to skip the kept distance.
+/// Returns the kind of a failure to pass over the kept distance.
 #[inline]
 fn lost(kind: Kind) -> Kind
     ensures { result ≡ losing kind }
@@ -203,7 +203,7 @@ fn lost(kind: Kind) -> Kind
     }
 }
 
-/// Skips the tokens before the place where the running parser began, and those that it has read, and returns the checkpoint of that place.
+/// Passes over the tokens before the place where the running part began, and over those that it has read, and returns the checkpoint of that place.
 #[inline(always)]
 fn pass_to<Input: Stream>(
     input: &mut Input,
@@ -223,7 +223,7 @@ fn pass_to<Input: Stream>(
     Ok(place)
 }
 
-/// Returns whether an accepted turn is a block. `since` is where its part in this piece began, `committed` how it was accepted.
+/// Returns whether an accepted turn is a block: `since` is where its part in this piece began, `committed` how it was accepted.
 #[inline(always)]
 fn is_block<Input: Stream>(
     took_before: bool,
@@ -236,7 +236,7 @@ fn is_block<Input: Stream>(
     committed && has_taken(took_before, since, input)
 }
 
-/// Runs one turn, which began at `place`. If its value is `None`, the blocks end, and the stream is put back to `place`.
+/// Runs one turn, which began at that place; if its parser says that the blocks end, the stream is put back to it.
 #[inline(always)]
 fn one_block<
     A: Drop,
@@ -294,7 +294,7 @@ fn one_block<
     }
 }
 
-/// Puts the stream back to the start on need of more, and keeps the distances. These are from the start to where the running parser began, and from there to where the stream was.
+/// Puts the stream back to the start on need of more, and keeps the distances: from there to the place where the running part began, and from it to where the stream was.
 fn keep<F, Input: Stream, S>(
     blocks: Blocks<F>,
     need: Input::Error,
@@ -357,7 +357,7 @@ where
     }
 }
 
-/// Collects the values of `parser` up to the first place where it gives `None`. It begins with `empty`, and puts the stream back to that place.
+/// Collects blocks of `parser` up to the first place where it says that they end, from `empty` on, with the stream put back to that place.
 #[inline(always)]
 pub fn take_blocks<
     A: Drop,
@@ -394,9 +394,7 @@ pub fn take_blocks<
         Ok(place) => place,
         Err(kind) => return ParseResult::CommitErr(input.new_error(lost(kind), position)),
     };
-    // From every kept state an acceptance with tokens is committed.
     let mut blocks = blocks.or_committed(before > 0);
-    // The label names the loop's invariant.
     'turns: loop {
         match one_block(parser, place, mode, blocks, input, &mut running) {
             BlockStep::Goes(next) => blocks = next,

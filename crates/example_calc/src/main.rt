@@ -1,6 +1,6 @@
-//! `calc` reads lines of arithmetic from standard input, and prints the value of each; `calc --help` has the details. A line is read by `expression`, which keeps open parentheses in memory: no input overflows the call stack.
+//! `calc` reads lines of arithmetic from standard input, and prints the value of each; `calc --help` says more. A line is read by `expression`, which keeps open parentheses in memory: no input overflows the call stack.
 //!
-//! Proved: no input makes it crash, and it ends when its input does. Each step of arithmetic is exact, by the contract of [`Operator`]: it returns the sum, the difference, the product or the quotient of two integers, and refuses exactly a division by zero and a result that is no `i64`.
+//! Proved: no input makes it crash, and it ends when its input does. Each step of arithmetic is exact, as the contract of [`Operator`] says: it answers the sum, the difference, the product or the quotient of two integers, and refuses exactly a division by zero and a result that is no `i64`.
 #![tactic(auto)]
 
 ghost use Rattle.std.specs.Prelude.{◌≡◌, ℤ, pos, MatchResult};
@@ -58,7 +58,7 @@ impl expression::Operator for Operator {
 
     ghost refuses_operands = { IsArithmeticFault };
 
-    /// Returns the result of the operator on 0 and the number after it.
+    /// Returns what the operator makes of 0 and the number after it.
     fn change(self, operand: i64) -> Result<i64, OperatorError> {
         self.join(0, operand)
     }
@@ -72,7 +72,7 @@ impl expression::Operator for Operator {
 }
 
 impl Operator {
-    /// Returns the result of the operator on two numbers; a quotient is rounded towards zero.
+    /// Returns what the operator makes of two numbers; a quotient is rounded towards zero.
     fn calculate(self, left: i64, right: i64) -> Result<i64, &'static str>
         ensures { MatchResult result (IsExact self left right) (λ message. IsArithmeticFault self left right message.now) }
     {
@@ -87,13 +87,13 @@ impl Operator {
     }
 }
 
-/// The most parentheses inside one another.
+/// How many parentheses may stand inside one another.
 const MOST_PARENTHESES: usize = 100;
 
 /// Sums, products, and a minus in front.
 const LEVELS: [Fixity; 3] = [Fixity::Left, Fixity::Left, Fixity::Prefix];
 
-/// Returns the item of a character before an operand: `-` or `(`.
+/// What stands before an operand: `-` or `(`.
 fn prefix(character: char) -> Item<Operator, i64> {
     match character {
         '-' => Item::Prefix(2, Operator::Minus),
@@ -101,7 +101,7 @@ fn prefix(character: char) -> Item<Operator, i64> {
     }
 }
 
-/// Returns the item of a character after an operand: an operator or `)`.
+/// What stands after an operand: an operator or `)`.
 fn suffix(character: char) -> Item<Operator, i64> {
     match character {
         '+' => Item::Infix(0, Operator::Plus),
@@ -112,7 +112,7 @@ fn suffix(character: char) -> Item<Operator, i64> {
     }
 }
 
-/// Returns the value of a line, in any stream of characters.
+/// Returns the value of a line, which any stream of characters may hold.
 fn value_in<Input: Stream<Token = char>, E: StreamError<char, Input::Range>>(
     alloc: Global,
     line: Input,

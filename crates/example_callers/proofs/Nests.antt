@@ -1,4 +1,4 @@
--- the reading after an opening bracket, by the depth allowed
+-- what stands behind an opening bracket, by how deep it may be
 use Rattle.std.proofs.Common.{ℕ, zero, suc, ◌-◌, ◌≡◌, Option, Some, None, arith, refl}
 use Rattle.combine_base.specs.Sequence.Readings.{sequel}
 use Rattle.example_callers.specs.Nests.{closed, inside, nest, none_there, second, too_deep}

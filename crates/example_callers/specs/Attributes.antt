@@ -1,9 +1,9 @@
--- the bytes of an attribute
+-- what the bytes of an attribute are
 use Rattle.std.specs.Prelude.{ℕ, ◌≡◌, ◌≤◌, ◌+◌, List, ◌∷◌, ◌++◌, true, nat_eq, not, All, length}
 use Rattle.std.specs.Char.{is_ascii_lowercase}
 use Rattle.example_callers.specs.declared.attributes.Attribute.{Attribute}
 
--- its name, `=`, its value between quotes, and the rest
+-- its name, `=`, its value between quotes, and what stands behind them
 pub record IsAttribute (input : List ℕ) (a : Attribute) (taken : ℕ) : Type 0 where
   pub behind : List ℕ
   pub bytes : input ≡ a.name.items ++ 61 ∷ 34 ∷ a.value.items ++ 34 ∷ behind

@@ -1,10 +1,10 @@
--- the steps of open brackets
+-- what comes of open brackets
 use Rattle.std.specs.Prelude.{◌≡◌, ◌+◌, ◌<◌, ◌≤◌, ℕ, true, false}
 use Rattle.combine_nested.specs.declared.nested.Next.{Next}
 use Rattle.combine_nested.specs.declared.nested.Next.TheVariants as nexts
 use Rattle.example_callers.specs.declared.brackets.Brackets.{Brackets}
 
--- the outermost frame, around all brackets
+-- what stands round all brackets
 abbrev pub outermost : Brackets
 outermost = record { is_outermost = true; pairs = 0 }
 
@@ -12,14 +12,14 @@ outermost = record { is_outermost = true; pairs = 0 }
 abbrev pub opened : Brackets
 opened = record { is_outermost = false; pairs = 0 }
 
--- an opening bracket opens, a closing one closes with the number of pairs inside; none closes the outermost, and no other byte is taken
+-- an opening bracket opens, a closing one closes with how many pairs stand inside; none closes the outermost, and no other byte is taken
 abbrev pub bracket_taken : Brackets → ℕ → Next Brackets ℕ → Type 0
 bracket_taken f a (nexts.Stay g) = ⊥
 bracket_taken f a (nexts.Open g h) = (a ≡ 40) × (g ≡ f) × (h ≡ opened)
 bracket_taken f a (nexts.Close v) = (a ≡ 41) × (f.is_outermost ≡ false) × (v ≡ f.pairs)
 bracket_taken f a (nexts.Refuse m) = (a ≡ 40 → ⊥) × (a ≡ 41 → f.is_outermost ≡ true)
 
--- a pair that is closed inside, and the pairs inside it
+-- a pair that is closed inside, and the pairs inside that
 abbrev pub with_pair : Brackets → ℕ → ℕ
 with_pair f v = f.pairs + v + 1
 

@@ -1,4 +1,4 @@
--- brackets inside brackets: their number, up to a depth
+-- brackets inside brackets: how many there are, at most so deep
 use Rattle.std.specs.Prelude.{ℕ, zero, suc, ◌+◌, ◌≡◌, ◌≤◌, nat_eq, List, [], ◌∷◌, Bool, true, false, Option, Some, None}
 use Rattle.std.proofs.Common.{arith, subst}
 use Rattle.combine_base.specs.Stream.View.{View, advanced}
@@ -37,7 +37,7 @@ module _ {P : Type 0} where
   abbrev pub opened : Reading P ℕ (Option ℕ)
   opened = OrElse (mapped_reading (nest_byte 40) is_some) nothing_taken
 
-  -- the bracket that closes around this many
+  -- the bracket that closes one round so many
   abbrev pub closed : ℕ → Reading P ℕ ℕ
   closed n = mapped_reading (nest_byte 41) (λ t m. m ≡ n + 1)
 
@@ -48,13 +48,13 @@ module _ {P : Type 0} where
   too_deep v o = o ≡ Refused true
 
   module _ (step : P → ℕ → P) where
-    -- the reading after an opening bracket, or after none
+    -- what stands behind an opening bracket, or behind none
     abbrev pub inside : Option ℕ → ℕ → Reading P ℕ ℕ
     inside None k = none_there
     inside (Some t) zero = too_deep
     inside (Some t) (suc k) = sequel step second (sequel step second opened (λ b. inside b k)) closed
 
-    -- the number of brackets inside one another, up to a depth
+    -- so many brackets inside one another, at most so deep
     abbrev pub nest : ℕ → Reading P ℕ ℕ
     nest k = sequel step second opened (λ b. inside b k)
 
@@ -115,7 +115,7 @@ module _ {P : Type 0} where
     within = λ v a n k p. absurd (cc);
   }
 
-  -- the number of tokens of an opening bracket, or of none
+  -- how many tokens an opening bracket is, or none
   none_opened : (v : View P ℕ) (n : ℕ) (c : Bool) → opened v (Accepted None n c) → n ≡ 0
   none_opened v n c (Here p f) = let e = p.2 in absurd (cc)
   none_opened v n c (Later r e) = cc
@@ -133,7 +133,7 @@ module _ {P : Type 0} where
     pub nest_is_reading : (k : ℕ) → IsReading (nest step k)
     nest_is_reading k = sequel_is_reading step second opened (λ b. inside step b k) opened_is_reading (λ b. inside_is_reading b k)
 
-    -- whichever bracket was read, its inside has one outcome
+    -- whichever bracket stood there, what is inside has one outcome
     follows_one : (k : ℕ) → ((b : Option ℕ) → IsSingle (inside step b k)) → SecondIsSingle step second opened (λ b. inside step b k)
     follows_one k h = record { one = by_bracket }
       where
@@ -155,7 +155,7 @@ module _ {P : Type 0} where
     inside_is_single (Some t) zero = record { one = λ v o o' p q. cc }
     inside_is_single (Some t) (suc k) = sequel_is_single step second (nest step k) closed (single_after k (λ b. inside_is_single b k)) (record { one = λ v a a' n c w w' u o o' x x'. closed_any_is_single.one u o o' (any_closed a u o x) (any_closed a' u o' x') })
 
-    -- the acceptance of the second of two parts
+    -- what the second of two parts was accepted with
     last_value : {A : Type 0} (r : Reading P ℕ A) (q : A → Reading P ℕ ℕ) (v : View P ℕ) (n i : ℕ) (c : Bool) → sequel step second r q v (Accepted n i c) → (a : A) × (j m : ℕ) × (d e : Bool) × r v (Accepted a j d) × q a (advanced step j v) (Accepted n m e)
     last_value {A} r q v n i c p = by_first p.0 p.1 p.2
       where
@@ -172,7 +172,7 @@ module _ {P : Type 0} where
         by_first (Refused d) w u = absurd (cc)
         by_first Undecided w u = absurd (cc)
 
-    -- the number of brackets is at most the depth
+    -- no more brackets than so deep
     inside_few : (b : Option ℕ) (k : ℕ) (v : View P ℕ) (n i : ℕ) (c : Bool) → inside step b k v (Accepted n i c) → n ≤ k
     inside_few None k v n i c p = let e : n ≡ 0 = cc in omega arith
     inside_few (Some t) zero v n i c p = absurd (cc)

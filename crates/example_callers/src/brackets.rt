@@ -1,4 +1,4 @@
-//! Brackets, with clauses on each step, so that a caller can cite that their grammar has one outcome.
+//! Brackets, of which it is said what comes of each, so that a caller can cite that their grammar has one outcome.
 ghost use Rattle.std.specs.Prelude.{◌≡◌};
 ghost use Rattle.example_callers.specs.Brackets.{outermost};
 
@@ -9,7 +9,7 @@ use combine_nested::nested::{Frame, Next, always, nested};
 use combine_token::token::{any, satisfy};
 use std::alloc::{AllocError, Global};
 
-/// Open brackets, or the outermost frame around all; and the number of pairs inside.
+/// Brackets that are open, or what stands round them all; and how many pairs stand inside.
 #[derive(Clone, Copy, Drop)]
 pub struct Brackets {
     is_outermost: bool,
@@ -81,7 +81,7 @@ where
     keeps::<Input, _>(nested(alloc, depth, root, always(any())));
 }
 
-/// Returns how many pairs of brackets are inside others, from the first pair that is inside none, and the rest of the input.
+/// How many pairs of brackets stand inside others, from the first on that stands in none, and what is behind that.
 pub fn read_brackets(
     alloc: Global,
     depth: usize,

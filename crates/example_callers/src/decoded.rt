@@ -17,7 +17,7 @@ pub fn all_words(alloc: Global, pieces: &[&[u8]]) -> Result<Batch<Vec<u8>>, Deco
     decode_pieces(alloc, word, pieces)
 }
 
-/// The result of a decoder for a piece, and whether its messages then covered all tokens.
+/// What a decoder gave for a piece, and whether its messages then covered all tokens.
 #[derive(Debug, Drop, PartialEq)]
 pub struct Answered<V> {
     pub answer: Result<Batch<V>, DecodeError>,
@@ -26,7 +26,7 @@ pub struct Answered<V> {
 
 pub type Answers<V> = Result<Vec<Answered<V>>, AllocError>;
 
-/// Feeds a decoder these pieces, and returns its result for each.
+/// Feeds a decoder these pieces, and returns what it gave for each.
 pub fn answers<F: Maker<Output = P> + Drop, P: Parser<fed::Stream<u8>> + Drop>(
     alloc: Global,
     maker: F,
@@ -37,7 +37,6 @@ pub fn answers<F: Maker<Output = P> + Drop, P: Parser<fed::Stream<u8>> + Drop>(
 {
     let mut answers = Vec::new(alloc);
     let mut decoder = Decoder::new(alloc, maker);
-    // The label names the loop's invariant.
     'pieces: for piece in pieces {
         let answer = decoder.feed(piece);
         let at_boundary = decoder.at_boundary();
@@ -49,7 +48,7 @@ pub fn answers<F: Maker<Output = P> + Drop, P: Parser<fed::Stream<u8>> + Drop>(
     Ok(answers)
 }
 
-/// Counts the messages of a peer that may never end one: more than `most` bytes after the last message are `TooLong`.
+/// Counts the messages of a peer that may never end one: where more than `most` bytes come after the last message, that is `TooLong`.
 pub fn count_messages<F: Maker<Output = P> + Drop, P: Parser<fed::Stream<u8>> + Drop>(
     alloc: Global,
     maker: F,
@@ -61,7 +60,6 @@ pub fn count_messages<F: Maker<Output = P> + Drop, P: Parser<fed::Stream<u8>> + 
 {
     let mut count = 0usize;
     let mut decoder = Decoder::with_limit(alloc, maker, most);
-    // The label names the loop's invariant.
     'pieces: for piece in pieces {
         let batch = decoder.feed(piece)?;
         count = count.saturating_add(batch.messages.len());

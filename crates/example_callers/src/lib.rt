@@ -1,4 +1,4 @@
-//! Callers of the library: those of the README and the guide, word for word. The clauses of `attributes`, `digits` and `records` give the bytes that were read; their proofs, in `proofs/`, cite the library's contracts alone.
+//! Callers of the library: the README's and the guide's, word for word. Those of `attributes`, `digits` and `records` say by a clause what the bytes are that they read; their proofs, in `proofs/`, cite the library's contracts alone.
 #![tactic(auto)]
 
 pub mod attributes;

@@ -12,13 +12,13 @@ use combine_choice::or::optional;
 use combine_combinator::combinator::map;
 use combine_token::token::token;
 
-/// Parses brackets inside one another, up to a depth, and returns their number: 0 without an opening bracket.
+/// How many brackets stand inside one another, at most so deep: none where no opening bracket stands.
 ///
-/// Deeper nesting is refused, committed, as is a bracket that isn't closed. On need of more the stream is put back, and the next call begins again.
+/// One that is deeper is refused, committed, as is one that isn't closed. On need of more the stream is put back, and the next call begins again.
 #[derive(Clone, Copy, Drop)]
 pub struct Nest(pub u32);
 
-/// Returns the same result, committed.
+/// The same answer, committed.
 fn committed<O, E>(answer: ParseResult<O, E>) -> ParseResult<O, E>
     ensures { result ≡ joined_answer true (λ v. v) answer }
 {
@@ -30,7 +30,7 @@ fn committed<O, E>(answer: ParseResult<O, E>) -> ParseResult<O, E>
     }
 }
 
-/// Parses an opening bracket, if there is one.
+/// An opening bracket, if one stands there.
 fn opened<Input: Stream<Token = u8>>(input: &mut Input) -> ParseResult<Option<u8>, Input::Error>
 where
     Input::Error: ParseError<u8, Input::Range, Input::Position>,
@@ -39,7 +39,7 @@ where
     optional(token(b'(')).parse_stream(input)
 }
 
-/// Parses the bracket that closes around this many.
+/// The bracket that closes one round so many.
 fn closed<Input: Stream<Token = u8>>(
     number: u32,
     input: &mut Input,
@@ -59,7 +59,7 @@ where
     .parse_stream(input)
 }
 
-/// Parses the rest after an opening bracket, if there was one.
+/// What stands after an opening bracket, if there was one.
 #[cycle(brackets)]
 fn inside<Input: Stream<Token = u8>>(
     depth: u32,
@@ -87,7 +87,7 @@ where
     }
 }
 
-/// Parses brackets up to this depth, and returns their number. On need of more the tokens stay taken.
+/// So many brackets, at most so deep. On need of more the tokens stay taken.
 #[cycle(brackets)]
 fn brackets<Input: Stream<Token = u8>>(
     depth: u32,

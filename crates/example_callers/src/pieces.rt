@@ -1,4 +1,4 @@
-//! An input in pieces.
+//! An input that stands in pieces.
 ghost use Rattle.std.specs.Char.{is_ascii_digit};
 ghost use Rattle.std.specs.Prelude.{◌≡◌, true};
 
@@ -12,7 +12,7 @@ use std::alloc::Global;
 
 type Setting = (Vec<u8>, u8, Vec<u8>, u8);
 
-/// Parses `WORD=DIGITS;`, however the input is cut.
+/// `WORD=DIGITS;`, however the input is cut.
 pub fn setting(
     alloc: Global,
     pieces: &[&[u8]],
@@ -22,7 +22,7 @@ pub fn setting(
     parse_pieces(alloc, (word, token(b'='), digits, token(b';')), pieces)
 }
 
-/// Parses a digit to its value; the closure is called on digits alone.
+/// What a digit stands for; the closure is called on digits alone.
 pub fn digit_value(
     alloc: Global,
     pieces: &[&[u8]],

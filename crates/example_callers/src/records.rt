@@ -10,14 +10,14 @@ use combine::parser::combinator::map;
 use combine::parser::token::any;
 use std::alloc::Global;
 
-/// A record: its kind and its text.
+/// A record: what kind it is, and its text.
 #[derive(Debug, Drop, PartialEq)]
 pub struct Record {
     pub kind: u8,
     pub text: Vec<u8>,
 }
 
-/// Returns the record at the beginning of a slice, and the rest of the input: a kind, a length in two bytes, the highest first, and as many bytes, which are the text.
+/// Returns the record at the beginning of a slice, and what stands after it: a kind, a length in two bytes, the highest first, and as many bytes, which are the text.
 pub fn read_record(alloc: Global, input: &[u8]) -> Result<(Record, &[u8]), UnexpectedParse>
     ensures { IfOk result (λ p. IsRecord input.now p.0 p.1.now) }
 {

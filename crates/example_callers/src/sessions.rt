@@ -4,7 +4,7 @@ use combine::parser::{Answer, Parser, Session, SessionError};
 use combine::stream::fed;
 use std::alloc::Global;
 
-/// Returns the value that is accepted of these pieces, if one is; pieces after a decision are not fed.
+/// The value that is accepted of these pieces, if one is; those after a decision are not asked for.
 pub fn accepted<P: Parser<fed::Stream<u8>> + Drop>(
     alloc: Global,
     parser: P,

@@ -6,7 +6,7 @@ use combine::parser::choice::optional;
 use combine::parser::token::token;
 use combine::stream::Stream;
 
-/// Parses a sign, if there is one, and then `0`.
+/// A sign, if there is one, and then `0`.
 pub fn signed_zero<Input: Stream<Token = u8>>(
     input: Input,
 ) -> Result<((Option<u8>, u8), Input), Input::Error>

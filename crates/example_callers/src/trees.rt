@@ -1,4 +1,4 @@
-//! A tree whose nodes are in one `Vec`, each with the index of the list around it: dropping and comparing it are loops, however deep it is.
+//! A tree whose nodes lie in one `Vec`, each with the index of the list around it: however deep it is, dropping and comparing it are loops.
 
 use combine::nested::{Frame, Next, always, nested};
 use combine::{Parser, UnexpectedParse, satisfy};
@@ -11,7 +11,7 @@ pub struct Node {
     pub parent: Option<usize>,
 }
 
-/// The open list, by its index, and all nodes so far. While a list is open inside it, the inner frame has the nodes.
+/// The list that is open, by its index, and all nodes so far. Where a list is open inside it, that one has the nodes.
 #[derive(Drop)]
 pub struct Open {
     alloc: Global,
@@ -60,7 +60,7 @@ impl Frame for Open {
 }
 
 impl Open {
-    /// Goes on in the list with these nodes, or closes where no list is open.
+    /// Goes on in the list with these nodes, or ends where no list is open.
     fn go_on(alloc: Global, list: Option<usize>, nodes: Vec<Node>) -> Next<Open, Vec<Node>> {
         match list {
             Some(_) => Next::Stay(Open { alloc, list, nodes }),

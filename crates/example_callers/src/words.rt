@@ -11,22 +11,22 @@ use combine::parser::repeat::many1;
 use combine::parser::token::satisfy;
 use std::alloc::Global;
 
-/// Parses a word of small letters, and returns it with the rest of the input.
+/// A word of small letters, and what stands behind it.
 pub fn word(alloc: Global, input: &[u8]) -> Result<(Vec<u8>, &[u8]), UnexpectedParse> {
     many1::<Vec<u8>, _>(alloc, satisfy(is_letter)).parse(input)
 }
 
-/// Parses `get` or `go`: where `get` is refused after its first letter, that letter is put back.
+/// `get` or `go`: where `get` is refused behind its first letter, that letter is put back.
 pub fn verb(input: &[u8]) -> Result<(&'static [u8], &[u8]), UnexpectedParse> {
     or(attempt(bytes(b"get")), bytes(b"go")).parse(input)
 }
 
-/// Parses `get` alone, since `go` is never tried after a `g`.
+/// `get` alone, since `go` is never tried behind a `g`.
 pub fn verb_without_attempt(input: &[u8]) -> Result<(&'static [u8], &[u8]), UnexpectedParse> {
     or(bytes(b"get"), bytes(b"go")).parse(input)
 }
 
-/// Parses the text before the first blank: a part of the input, which is not copied.
+/// What stands before the first blank: a part of the text, which is not copied.
 pub fn first_word(text: &str) -> Result<(&str, &str), UnexpectedParse> {
     take_while1(is_no_blank).parse(text)
 }

@@ -40,7 +40,7 @@ pub struct Head<R> {
 pub enum Class {
     /// Bytes of methods and of names of headers.
     Token,
-    /// Bytes that are neither a space nor a control: those of a target, and of the words of a value.
+    /// Bytes that are neither a space nor a control: a target is made of these, and so are the words of a value.
     Visible,
     /// A space or a tab.
     Blank,
@@ -141,7 +141,7 @@ pub fn request_head<I, R>(alloc: Global) -> RequestHead<I, R> {
     map(parts, ToHead)
 }
 
-/// Reads a head. Where there is none, the stream is left at the place of the mistake.
+/// Reads a head. A stream in which there is none is left at the place of the mistake.
 pub fn read_head<I: RangeStream<Token = u8>>(
     alloc: Global,
     input: &mut I,

@@ -1,4 +1,4 @@
-//! `http` reads heads of requests from standard input, and prints their parts; `http --help` has the details.
+//! `http` reads heads of requests from standard input, and prints their parts; `http --help` says more.
 //!
 //! The parts are parts of the input, and nothing of it is copied before it is printed.
 //!
@@ -32,7 +32,7 @@ fn main(rt: HostRuntime) -> ExitCode {
     HTTP.run(&rt, |(): ()| print_heads(&rt))
 }
 
-/// Prints each head of standard input, up to the first that is malformed.
+/// Prints each head of standard input, up to what is none.
 fn print_heads(rt: &HostRuntime) -> io::Result<ExitCode> {
     let mut input = Vec::new(rt.alloc());
     rt.reader().read_to_end(&mut input)?;

@@ -1,4 +1,4 @@
-//! `json` reads JSON from standard input, checks it, and prints it without blanks; `json --help` has the details.
+//! `json` reads JSON from standard input, checks it, and prints it without blanks; `json --help` says more.
 //!
 //! Arrays and objects nest, and are read by `nested`: no input overflows the call stack. The reader and the writer are `example_json_core`, which `bench/` measures too.
 //!
@@ -29,16 +29,16 @@ The status is 0 where the input is JSON, 1 where it isn't or can't be read, and
 2 where the arguments are wrong.
 ";
 
-/// The options of the command line.
+/// What the arguments ask for.
 #[derive(Clone, Copy)]
 struct Options {
     depth: usize,
-    /// The length of a piece in bytes, not 0.
+    /// How many bytes a piece has, not 0.
     piece: usize,
 }
 
 impl Options {
-    /// Returns the options with one argument more, or `None` for an unknown argument.
+    /// Returns what is asked for with one argument more, if there is such an argument.
     fn with(self, word: &str) -> Option<Options> {
         if let Some(depth) = word.strip_prefix("--depth=") {
             let depth = depth.parse::<usize>().ok()?;
@@ -85,7 +85,7 @@ fn run(rt: &HostRuntime) -> io::Result<ExitCode> {
     check(rt, options, &input)
 }
 
-/// Prints the input as a document, or why it is none.
+/// Prints the document that the input is, or why it is none.
 fn check(rt: &HostRuntime, options: Options, input: &[u8]) -> io::Result<ExitCode> {
     let alloc = rt.alloc();
     let pieces: Vec<&[u8]> = input.chunks(options.piece.max(1)).collect(alloc)?;
@@ -96,7 +96,7 @@ fn check(rt: &HostRuntime, options: Options, input: &[u8]) -> io::Result<ExitCod
             Ok(ExitCode::SUCCESS)
         }
         _ => {
-            // Pieces keep no reasons, so a refused input is read once more.
+            // Pieces keep no reasons, so what is refused is read once more.
             if let Err(error) = read_easily(alloc, options.depth, input) {
                 print_error(rt, input, &error)?;
             }
@@ -136,7 +136,7 @@ fn print_error(rt: &HostRuntime, input: &[u8], error: &JsonError<'_>) -> io::Res
     Ok(())
 }
 
-/// Returns the line and the column after this many bytes, both counted from 1; a column is a character.
+/// Returns the line and the column of what stands after so many bytes, both counted from 1; a column is a character.
 fn place_of(input: &[u8], position: usize) -> (usize, usize) {
     let mut line: usize = 1;
     let mut column: usize = 1;

@@ -1,4 +1,4 @@
-//! The grammar of what one step reads. `I` is the stream.
+//! The grammar of one step. `I` is the stream.
 
 use crate::place::Place;
 use combine::parser::choice::or;
@@ -9,22 +9,24 @@ use combine::parser::repeat::types::{SkipMany, SkipMany1};
 use combine::parser::sequence::skip;
 use combine::parser::sequence::types::Skip;
 use combine::parser::token::types::{Satisfy, Token};
-use combine::{Function, Parser, eof, one_of, optional, satisfy, skip_many, skip_many1, token};
+use combine::{
+    Function, Parser, UnexpectedParse, eof, one_of, optional, satisfy, skip_many, skip_many1, token,
+};
 use std::alloc::Global;
 
 /// A class of bytes.
 #[derive(Clone, Copy, Drop)]
 pub enum Class {
     Blank,
-    /// What numbers and words are made of.
+    /// A byte of a number or a word.
     Bare,
-    /// What stands in a text as itself.
+    /// A byte of a text that isn't escaped.
     Plain,
-    /// What stands after a backslash.
+    /// The byte after a backslash.
     Escape,
     /// A comma, a colon or a bracket.
     Sign,
-    /// The comma or the colon that may stand after what comes at a place.
+    /// A blank, or the comma or the colon that may follow the part at a place.
     After(Place),
 }
 
@@ -34,20 +36,26 @@ impl Function<u8> for Class {
     #[inline(always)]
     fn call(&self, byte: u8) -> bool {
         match self {
-            Class::Blank => matches!(byte, b' ' | b'\t' | b'\n' | b'\r'),
+            Class::Blank => is_blank(byte),
             Class::Bare => byte.is_ascii_alphanumeric() || matches!(byte, b'+' | b'-' | b'.'),
             Class::Plain => byte >= b' ' && byte != b'"' && byte != b'\\',
             Class::Escape => b"\"\\/bfnrtu".contains(&byte),
             Class::Sign => matches!(byte, b',' | b':' | b'[' | b']' | b'{' | b'}'),
-            Class::After(place) => place
-                .after()
-                .and_then(|it: Place| it.after_sign(byte))
-                .is_some(),
+            Class::After(place) => {
+                is_blank(byte)
+                    || place
+                        .after()
+                        .is_some_and(|it: Place| it.after_sign(byte).is_some())
+            }
         }
     }
 }
 
-/// A text with its quotes, a number or a word, as the input has it, and the comma or the colon after it; or no bytes, and a sign.
+fn is_blank(byte: u8) -> bool {
+    matches!(byte, b' ' | b'\t' | b'\n' | b'\r')
+}
+
+/// A text with its quotes, a number or a word, unchanged, and the blank, the comma or the colon after it; or no bytes, and a sign.
 pub type Item = (Vec<u8>, Option<u8>);
 
 /// Makes an item of a sign alone.
@@ -67,7 +75,7 @@ pub type Byte<I> = Satisfy<I, Class>;
 
 pub type Blanks<I> = SkipMany<Byte<I>>;
 
-/// Parses the blanks that may stand between parts.
+/// Parses blanks.
 pub fn blanks<I>() -> Blanks<I> {
     skip_many(satisfy(Class::Blank))
 }
@@ -91,7 +99,7 @@ pub type Step<I> = Skip<
     Item,
 >;
 
-/// Parses what comes at a place, and blanks.
+/// Parses the item at a place, and blanks.
 pub fn step<I>(alloc: Global, place: Place) -> Step<I> {
     let part = or(ignore(text()), skip_many1(satisfy(Class::Bare)));
     let after = optional(satisfy(Class::After(place)));
@@ -99,8 +107,8 @@ pub fn step<I>(alloc: Global, place: Place) -> Step<I> {
     skip(or((recognize(alloc, part), after), sign), blanks())
 }
 
-/// Returns whether these bytes are a number.
-pub fn is_number(bytes: &[u8]) -> bool {
+/// Reads a number. The error is of kind `End` if it ends too soon.
+pub fn read_number(bytes: &[u8]) -> Result<(), UnexpectedParse> {
     let digits = || skip_many1(satisfy(|byte: u8| byte.is_ascii_digit()));
     let whole = or(ignore(token(b'0')), digits());
     let fraction = optional((token(b'.'), digits()));
@@ -110,5 +118,6 @@ pub fn is_number(bytes: &[u8]) -> bool {
         digits(),
     ));
     let mut number = (optional(token(b'-')), whole, fraction, exponent, eof());
-    number.parse(bytes).is_ok()
+    let (_number, _rest) = number.parse(bytes)?;
+    Ok(())
 }

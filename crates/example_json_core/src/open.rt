@@ -1,26 +1,27 @@
-//! What is open, and what comes of what is read there.
+//! The frames of a document: open arrays and objects.
 
-use crate::grammar::{Item, is_number};
+use crate::grammar::{Item, read_number};
 use crate::node::{Document, Node};
 use crate::place::Place;
 use crate::texts::unescape;
 use combine::nested::{Frame, Next};
+use combine::stream::Kind;
 use std::alloc::{AllocError, Global};
 
-/// What comes of what is open.
+/// The next state of a frame.
 type Then = Result<Next<Open, Document>, AllocError>;
 
-/// An array or an object that is open, or the whole. The innermost has the nodes of the document so far.
+/// An open array or object, or the whole. The innermost has the nodes of the document so far.
 #[derive(Drop)]
 pub struct Open {
     alloc: Global,
-    /// What may come next.
+    /// Where the next item comes.
     pub place: Place,
     nodes: Document,
 }
 
 impl Open {
-    /// Returns the whole, of which nothing was read.
+    /// Returns the whole, before its first item.
     pub fn new(alloc: Global) -> Open {
         let nodes = Vec::new(alloc);
         Open {
@@ -30,7 +31,7 @@ impl Open {
         }
     }
 
-    /// Goes on at this place, if there is one.
+    /// Continues at this place, if there is one.
     fn go_on(self, place: Option<Place>) -> Then {
         match place {
             Some(Place::End) => Ok(Next::Close(self.nodes)),
@@ -86,13 +87,18 @@ impl Frame for Open {
             b"null" => Node::Null,
             b"true" => Node::Bool(true),
             b"false" => Node::Bool(false),
-            number if is_number(number) => Node::Number(bytes),
-            _ => return self.go_on(None),
+            number => match read_number(number) {
+                Ok(()) => Node::Number(bytes),
+                Err(error) if error.0 == Kind::End && sign.is_none() => {
+                    return self.go_on(Some(Place::Digits));
+                }
+                Err(_) => return self.go_on(None),
+            },
         };
         self.nodes.push(node)?;
         let place = self.place.after();
         match (place, sign) {
-            (Some(place), Some(sign)) => self.go_on(place.after_sign(sign)),
+            (Some(place), Some(sign @ (b',' | b':'))) => self.go_on(place.after_sign(sign)),
             _ => self.go_on(place),
         }
     }

@@ -21,17 +21,19 @@ pub enum Place {
     Value,
     /// After an entry's value: a comma, or the object's end.
     ValueEnd,
+    /// After a number that ended too soon: a digit, which can't come, since the number would have it.
+    Digits,
     /// After the whole's value: nothing.
     End,
 }
 
 impl Place {
-    /// Whether a text that stands here is a name.
+    /// Returns whether a text here is a name.
     pub fn takes_name(self) -> bool {
         matches!(self, Place::Object | Place::Name)
     }
 
-    /// Returns the place after a name or a value, if one may stand here.
+    /// Returns the place after a name or a value, if one may come here.
     pub fn after(self) -> Option<Place> {
         match self {
             Place::Whole => Some(Place::End),
@@ -42,7 +44,7 @@ impl Place {
         }
     }
 
-    /// Returns the place after a comma or a colon, if it may stand here.
+    /// Returns the place after a comma or a colon, if it may come here.
     pub fn after_sign(self, sign: u8) -> Option<Place> {
         match (self, sign) {
             (Place::ElementEnd, b',') => Some(Place::Element),
@@ -52,7 +54,7 @@ impl Place {
         }
     }
 
-    /// Returns what is said where something else stands here.
+    /// Returns the message of a refusal of anything else here.
     pub fn expected(self) -> &'static str {
         match self {
             Place::Whole | Place::Element | Place::Value => "value expected",
@@ -62,6 +64,7 @@ impl Place {
             Place::Name => "name expected",
             Place::NameEnd => "colon expected",
             Place::ValueEnd => "comma or } expected",
+            Place::Digits => "digit expected",
             Place::End => "end expected",
         }
     }

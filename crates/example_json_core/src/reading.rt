@@ -9,10 +9,10 @@ use combine::stream::position;
 use combine::{ParseError, Parser, Stream, UnexpectedParse, between, easy, eof};
 use std::alloc::Global;
 
-/// Why an input is refused, and after how many bytes.
+/// The reason why an input is refused, and the number of bytes before that.
 pub type JsonError<'a> = easy::Errors<u8, &'a [u8], usize>;
 
-/// Reads the document that a stream is.
+/// Reads a document from a stream.
 fn read<I: Stream<Token = u8>>(alloc: Global, depth: usize, input: I) -> Result<Document, I::Error>
 where
     I::Error: ParseError<u8, I::Range, I::Position>,
@@ -23,21 +23,21 @@ where
     Ok(document)
 }
 
-/// Reads the document that a slice is.
+/// Reads a document from a slice.
 ///
 /// # Errors
 ///
-/// It is refused where it isn't one value as the standard has it, or has arrays and objects more than `depth` inside one another; half of a pair of surrogates is refused too.
+/// The input is refused if it isn't one value of RFC 8259, if arrays and objects nest more than `depth` deep, and if a text has half of a pair of surrogates.
 pub fn read_slice(alloc: Global, depth: usize, input: &[u8]) -> Result<Document, UnexpectedParse> {
     read(alloc, depth, input)
 }
 
-/// Reads the document that a text is, as [`read_slice`] does.
+/// Reads a document from a text, as [`read_slice`] does.
 pub fn read_text(alloc: Global, depth: usize, text: &str) -> Result<Document, UnexpectedParse> {
     read(alloc, depth, text.as_bytes())
 }
 
-/// Reads the same from pieces, one after another.
+/// Reads a document from pieces, one after another.
 pub fn read_pieces(
     alloc: Global,
     depth: usize,
@@ -48,7 +48,7 @@ pub fn read_pieces(
     parse_pieces(alloc, between(blanks(), eof(), value), pieces)
 }
 
-/// Reads the same from a slice, and says why it is refused and after how many bytes.
+/// Reads a document from a slice, with readable errors.
 pub fn read_easily<'a>(
     alloc: Global,
     depth: usize,

@@ -1,6 +1,6 @@
-//! The parts that the programs share: their arguments and status, the place of a mistake, the integers of their grammars, and messages from standard input.
+//! What the programs share: what becomes of their arguments, how they end, the place of a mistake, the integers of their grammars, and messages from standard input.
 //!
-//! Proved: no call panics, and each returns. The caret is under the place, by the contract of [`place::caret_under`]: before it is a tab for each tab before the place, and a blank for each other character.
+//! Proved: no call panics, and each returns. The caret stands under the place, as the contract of [`place::caret_under`] says: before it stands a tab for each tab before the place, and a blank for each other character.
 #![tactic(auto)]
 
 pub mod messages;
@@ -14,9 +14,9 @@ use place::{caret_under, line_at};
 use std::process::ExitCode;
 use std::{env, io};
 
-/// The arguments of a program.
+/// What the arguments of a program say.
 pub trait Arguments: Default + Drop {
-    /// Returns the arguments with one more, or that one if it isn't allowed there.
+    /// Returns what they say with one more, or that one where it may not stand there.
     fn with(self, word: String) -> Result<Self, String>;
 }
 
@@ -27,7 +27,7 @@ impl Arguments for () {
     }
 }
 
-/// The last lines of `--help`, on each program's status.
+/// What `--help` says of each program's status.
 const STATUSES: &str = "
 The status is 0 where nothing is said on standard error, 2 where the arguments
 are wrong, and else 1.
@@ -37,14 +37,14 @@ are wrong, and else 1.
 #[derive(Clone, Copy)]
 pub struct Program {
     pub name: &'static str,
-    /// The text of `--help`, before the lines on the status.
+    /// What `--help` prints, before what it says of the status.
     pub help: &'static str,
 }
 
 impl Program {
-    /// Runs `body` on the arguments, and returns the status with which the program ends.
+    /// Runs `body` on what the arguments say, and returns the status with which the program ends.
     ///
-    /// The status is 0 after `--help`, whose text is printed, 2 if an argument isn't allowed, and 1 if `body` fails. The last two are reported on standard error.
+    /// That is 0 where `--help` stands among the arguments, whose text is printed then, and 2 where an argument may not stand there. Where `body` fails it is 1. The last two are said on standard error.
     pub fn run<A: Arguments, F: FnOnce(A) -> io::Result<ExitCode>>(
         self,
         rt: &HostRuntime,
@@ -87,11 +87,11 @@ impl Program {
         body(arguments)
     }
 
-    /// Prints on standard error why and where a text is refused that comes after `before` lines: the line and the column, the reasons, the line itself, and a caret under the place. Returns the status of a failure.
+    /// Says on standard error why and where a text is refused that stands after so many lines: the line and the column, the reasons, the line itself, and a caret under the place. Returns the status of that.
     ///
     /// # Errors
     ///
-    /// Out of memory, if that is the error and no refusal; nothing is printed then.
+    /// Where it was no refusal, but no memory was left, that is answered, and nothing is said.
     pub fn print_error(
         self,
         rt: &HostRuntime,

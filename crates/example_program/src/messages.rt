@@ -9,14 +9,14 @@ use std::io;
 use std::io::Read;
 use std::process::ExitCode;
 
-/// The most bytes of a read.
+/// How many bytes are asked for at once.
 const PIECE: usize = 4096;
 
-/// Prints the text of each message of standard input as soon as it is complete. `maker` makes the parser of each; `what` names a message in errors.
+/// Prints the text of each message of standard input as soon as it has come. `maker` makes the parser of each, and `what` is what one is called.
 ///
 /// # Errors
 ///
-/// A malformed message, and an input that ends within one, is an error that names its number, after the messages before it are printed.
+/// After the messages before it, what is none is refused with an error that says which it would be, and so is an input that ends within one.
 pub fn print_messages<
     P: Parser<fed::Stream<u8>, Output = String> + Drop,
     M: Maker<Output = P> + Drop,
@@ -28,7 +28,6 @@ pub fn print_messages<
     let mut piece = [0u8; PIECE];
     let mut decoder = Decoder::new(rt.alloc(), maker);
     let mut number: u64 = 1;
-    // The label names the loop's invariant.
     'pieces: for _piece in 0..u64::MAX {
         let count = input.read(&mut piece)?;
         if count == 0 {

@@ -2,11 +2,11 @@
 
 use combine::error::{Info, StreamError};
 
-/// Returns the integer that digits write, perhaps after a `-`: a function for `and_then`.
+/// Returns the integer that digits say, perhaps after a `-`: what `and_then` asks of a function.
 ///
 /// # Errors
 ///
-/// A number that is no `i64` is refused, with the message that it is too large.
+/// What is no `i64` is refused, with the message that it is too large.
 pub fn parse_integer<R, E: StreamError<char, R>>(digits: String) -> Result<i64, E> {
     match digits.as_str().parse::<i64>() {
         Ok(number) => Ok(number),

@@ -6,17 +6,17 @@ ghost use Rattle.example_program.specs.Carets.{mark};
 use combine::stream::position::SourcePosition;
 use std::alloc::{AllocError, Global};
 
-/// Returns the line at a place, without its end; empty if the text has fewer lines.
+/// Returns the line at a place, without its end; nothing where the text has fewer lines.
 pub fn line_at(text: &str, place: SourcePosition) -> &str {
     let before = place.line.saturating_sub(1) as usize;
     text.lines().nth(before).unwrap_or("")
 }
 
-/// Returns a caret under a column of the line, counted from 1: before it a tab for each tab of the line, and a blank for each other character.
+/// Returns a caret that stands under a column of the line, counted from 1: before it a tab for each tab of the line, and a blank for each other character.
 ///
 /// # Errors
 ///
-/// Out of memory.
+/// Where no memory is left.
 pub fn caret_under(alloc: Global, line: &str, column: u64) -> Result<String, AllocError>
     ensures { IfOk result (λ caret. string_bytes caret ≡ encode_utf8_all (map mark (take (column - 1) (chars line.now))) ++ codes "^") }
 {
@@ -26,7 +26,7 @@ pub fn caret_under(alloc: Global, line: &str, column: u64) -> Result<String, All
     Ok(caret)
 }
 
-/// Returns the mark under a character before the caret.
+/// Returns what stands under a character before the caret.
 fn mark(character: char) -> char
     ensures { result ≡ mark character }
 {

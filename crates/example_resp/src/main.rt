@@ -1,6 +1,6 @@
-//! `resp` reads replies of RESP, the protocol of Redis, from standard input in pieces, and prints each as soon as it is complete; `resp --help` has the details.
+//! `resp` reads replies of RESP, the protocol of Redis, from standard input in pieces, and prints each as soon as it has come; `resp --help` says more.
 //!
-//! Replies nest, and are read by `nested`: no input overflows the call stack. A length makes room for at most 1,024 bytes at once, whatever it is.
+//! Replies nest, and are read by `nested`: no input overflows the call stack. A length takes room for no more than 1,024 bytes at once, whatever it is.
 //!
 //! Proved: no input makes it crash, and it ends when its input does.
 #![tactic(auto)]

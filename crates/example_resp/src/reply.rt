@@ -10,32 +10,32 @@ use std::alloc::{AllocError, Global};
 use std::io;
 use std::process::ExitCode;
 
-/// The most arrays inside one another.
+/// How many arrays may stand inside one another.
 const MOST_ARRAYS: usize = 32;
 
-/// The most bytes of a bulk string, as on a server.
+/// The most bytes of a bulk string, as a server has it.
 const MOST_BYTES: i64 = 512 * 1024 * 1024;
 
-/// The most items of an array, as on a server.
+/// The most items of an array, as a server has it.
 const MOST_ITEMS: i64 = 1024 * 1024;
 
-/// A line: its kind, and the bytes after it. The bytes of a bulk string are one of kind `+`.
+/// A line: its kind, and what stands after that. The bytes of a bulk string are one of kind `+`.
 type Line = (u8, Vec<u8>);
 
-/// The next step after items.
+/// What comes of items.
 type Then = Result<Next<Items, String>, AllocError>;
 
-/// An open array, or the one reply that isn't in an array.
+/// An array whose items come, or the one reply that isn't in an array.
 #[derive(Drop)]
 struct Items {
     alloc: Global,
-    /// The number of items still to come.
+    /// How many are still to come.
     missing: i64,
-    /// The number of arrays around the items.
+    /// In how many arrays they stand.
     depth: usize,
     /// The length of the bulk string that comes next, if one does.
     length: Option<usize>,
-    /// The printed text of the items so far.
+    /// What is printed of those that have come.
     text: String,
 }
 
@@ -64,7 +64,7 @@ impl Items {
         Ok(())
     }
 
-    /// Closes with the printed text where no item is missing, else stays.
+    /// What comes of them: where none is missing, what is printed of all.
     fn go_on(self) -> Then {
         if self.missing > 0 {
             return Ok(Next::Stay(self));
@@ -102,13 +102,13 @@ impl Frame for Items {
     }
 }
 
-/// Returns the number that a line writes, if it writes one.
+/// The number that a line says, if it says one.
 fn number_of(line: &[u8]) -> Option<i64> {
     let text = str::from_utf8(line).ok()?;
     text.parse::<i64>().ok()
 }
 
-/// Prints each reply of standard input as soon as it is complete.
+/// Prints each reply of standard input as soon as it has come.
 pub fn print_replies(rt: &HostRuntime) -> io::Result<ExitCode> {
     let alloc = rt.alloc();
     let maker = move || {

@@ -1,8 +1,8 @@
 //! Reads a message from standard input piece by piece, and writes a line for each piece that needs more and one for the decision.
 //!
-//! The arguments are up to 64 piece sizes in bytes, and before them perhaps `limit=N`: at most N bytes are then ever unread. The status is 0 if a message is accepted and 1 if it is refused; if the program gives up it is 2, with one line on standard error.
+//! The arguments are up to 64 piece sizes in bytes, and before them perhaps `limit=N`: at most N bytes are then ever unread. The status is 0 where a message is accepted and 1 where it is refused; where the program gives up it is 2, with one line on standard error.
 //!
-//! With `frames` before the sizes it reads frames, one after another, and writes a line for each message. The status is then 0 if the messages are all of the input, and 1 if anything follows them.
+//! With `frames` before the sizes it reads frames, one after another, and writes a line for each message. The status is then 0 where the messages are all of the input, and 1 where something stands after them.
 #![tactic(auto)]
 
 use feedline_core::{Fault, read_args, read_input, run_frames, run_limited};

@@ -1,4 +1,4 @@
--- the lines of a decoded input, piece after piece
+-- the lines of an input that is decoded, piece after piece
 use Rattle.std.proofs.Common.{Bor, ℕ, zero, suc, ◌-◌, map, ◌≡◌, ◌≢◌, ◌+◌, ◌^◌, ◌<◌, ◌≤◌, ◌&&◌, ap, sym, subst, refl, ◌∙◌, List, [], ◌∷◌, ◌++◌, length, take, drop, get_or, nat_eq, Bool, true, false, eq-eqb, eqb-true, ne_eqb, Option, Result, Ok, Err, MatchResult, inr, arith}
 use Rattle.std.proofs.lemmas.List.{append-nil, drop-map, length-append, length-drop, take_all, take_more, drop_more, take-append-drop}
 use Rattle.std.proofs.KnownBytes.{Appends-nil, Appends-trans}
@@ -19,7 +19,7 @@ use Rattle.feedline_core.specs.Lines.{end_line, message_lines}
 use Rattle.feedline_core.specs.declared.fault.Fault.{Fault}
 use Rattle.feedline_core.specs.declared.fault.Fault.TheVariants as faults
 
--- no byte is waiting, and none follows
+-- nothing is there, and nothing behind it
 none_at_all : (waiting : ℕ) (l x : List ℕ) → waiting ≡ length l → (nat_eq waiting 0 && nat_eq (length x) 0) ≡ nat_eq (length (l ++ x)) 0
 none_at_all zero l x h = let e : length x ≡ length (l ++ x) = omega (arith, length-append l x) in ap (λ n. nat_eq n 0) e
 none_at_all (suc m) l x h = ap (λ b. b && nat_eq (length x) 0) (ne_eqb (suc m) 0 (omega arith)) ∙ sym (ne_eqb (length (l ++ x)) 0 (omega (arith, length-append l x)))
@@ -58,7 +58,7 @@ module _ (pieces : List (List ℕ)) (n : ℕ) (so_far : length (concatenated pie
 
 module _ {F P R E S : Type 0} (makes : F → P → Type 0) (meaning : P → Meaning ℕ ℕ R E (Vec ℕ) S) where
   module _ (from : F) where
-    -- a decoder that was fed these bytes, with the lines of its messages written
+    -- a decoder that was fed these bytes, of whose messages the lines were written
     pub record WrittenMessages (old now : Option (List ℕ)) (fed : List ℕ) (d : Decoding F P ℕ S) : Type 0 where
       pub messages : List (Vec ℕ)
       pub far : DecoderWasFed makes meaning from fed messages d
@@ -68,7 +68,7 @@ module _ {F P R E S : Type 0} (makes : F → P → Type 0) (meaning : P → Mean
     pub no_message_written : (old : Option (List ℕ)) (d : Decoding F P ℕ S) → d.maker ≡ from → d.limit + 1 ≡ 2 ^ 64 → DecoderGoesOn makes meaning [] d → WrittenMessages old old [] d
     no_message_written old d e limit s = record { messages = []; far = decoder_fed_nothing makes meaning from d e s; lines = Appends-nil old; limit = limit }
 
-    -- in a loop over the pieces, after the first n were fed
+    -- in a loop over the pieces, of which the first n were fed
     module _ (law : IsReading (made_reading meaning (makes from))) (pieces : List (List ℕ)) (n : ℕ) (old now : Option (List ℕ)) (d : Decoding F P ℕ S) (w : WrittenMessages old now (concatenated (take n pieces)) d) where
       abbrev fed : List ℕ
       fed = concatenated (take n pieces)
@@ -76,7 +76,7 @@ module _ {F P R E S : Type 0} (makes : F → P → Type 0) (meaning : P → Mean
       abbrev rest : List ℕ
       rest = concatenated (drop (n + 1) pieces)
 
-      -- the bytes after the messages so far, and any piece at most as long as the bytes left
+      -- what is behind the messages so far, and any piece that is no longer than what is left
       room : (piece : List ℕ) → length fed + length piece ≤ length (concatenated pieces) → length (concatenated pieces) < 2 ^ 64 → HasRoom makes meaning d piece
       room piece k fits = record {
         behind = w.far.behind;

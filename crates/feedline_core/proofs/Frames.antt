@@ -1,4 +1,4 @@
--- messages by one reading are those by another that has its outcomes, and the parser of frames has the outcomes of a frame
+-- messages by one reading are those by another that has its outcomes, and the parser of frames has those of a frame
 use Rattle.std.proofs.Common.{ℕ, ◌≡◌, subst, List, [], ◌∷◌, ◌++◌, drop, Bool, true, Option, Result, Ok, Err}
 use Rattle.std.specs.Global.{Vec}
 use Rattle.std.specs.declared.alloc.Global.{Global}
@@ -36,7 +36,7 @@ module _ {T V : Type 0} (r q : Reading ℕ T V) (has : (v : View ℕ T) (o : Out
   messages_as : (l : List T) (vs : List V) (e : BatchEnd) (n : ℕ) → Messages r l vs e n → Messages q l vs e n
   messages_as l vs e n m = record { behind = m.behind; divided = divides_as l vs m.behind m.divided; stop = stops_as m.behind e m.stop; refused = m.refused; number = m.number }
 
--- the lines written for the messages by one reading are those for the messages by the other
+-- what is written of the messages by one is what is to be written of those by the other
 pub decodes_as : (r q : Reading ℕ ℕ (Vec ℕ)) (has : (v : View ℕ ℕ) (o : Outcome (Vec ℕ)) → r v o → q v o) (input : List ℕ) (old new : Option (List ℕ)) (result : Result Bool Fault) → DecodesInput r input old new result → DecodesInput q input old new result
 decodes_as r q has input old new (Ok complete) h =
     let p : PrintsMessages r input h.is.0 complete = h.is.1 in
@@ -51,7 +51,7 @@ decodes_as r q has input old new (Ok complete) h =
     record { is = (h.is.0, prints, h.is.2) }
 decodes_as r q has input old new (Err why) h = record { is = h.is }
 
--- as many bytes as the length, by the parser that is returned for it
+-- as many bytes as the length says, by the parser that is answered for it
 module _ (Input : Type 0) (alloc : Global) where
   abbrev answered : ℕ → Reading ℕ ℕ (Vec ℕ)
   answered n v o = (p : Repeat (Each (Vec ℕ)) (Any Input) MinToMax) × (p ≡ count_min_max_of alloc n n any_parser) × (count_min_max step no_items (appended (λ v. v.items) [] (λ bs b. bs ++ b ∷ []) ⊥) (repeat_min p) (repeat_max p) (byte_where (λ b. true))).whole v o

@@ -1,4 +1,4 @@
--- how an input is cut, and the meaning of the lines of its pieces for the input itself
+-- how an input is cut, and what the lines of its pieces say of the input itself
 use Rattle.std.proofs.Common.{ℕ, zero, suc, None, ◌≡◌, ◌≢◌, ⊎_elim, MatchResult, ◌+◌, ◌<◌, ◌≤◌, ◌↔◌, List, [], ◌∷◌, ◌++◌, length, take, drop, sum, Bool, true, false, Option, Result, Ok, Err, refl, ap, sym, subst, ◌∙◌, take-add, arith}
 use Rattle.std.proofs.lemmas.List.{append-nil, length-drop, take-append-drop, take_all}
 use Rattle.std.proofs.lemmas.List.Sums.{sum_by-cons}
@@ -19,7 +19,7 @@ joined_whole [] [] = refl
 joined_whole [] (b ∷ bs) = append-nil (b ∷ bs)
 joined_whole (n ∷ ns) input = ap (λ z. take n input ++ z) (joined_whole ns (drop n input)) ∙ take-append-drop n input
 
--- the first pieces are as many bytes as the sum of their sizes, where there are as many
+-- the first pieces are as many bytes as their sizes say, where there are as many
 joined_first : (sizes input : List ℕ) (k : ℕ) → k ≤ length sizes → concatenated (take k (pieces_of sizes input)) ≡ take (sum (take k sizes)) input
 joined_first sizes input zero h = refl
 joined_first [] input (suc k) h = absurd (omega arith)
@@ -39,7 +39,7 @@ one_is_left [] [] = omega arith
 one_is_left [] (b ∷ bs) = omega arith
 one_is_left (n ∷ ns) input = let h = one_is_left ns (drop n input) in omega arith
 
--- where bytes are left
+-- where something is left
 rest_is_one : (sizes input : List ℕ) → sum sizes < length input → length sizes < length (pieces_of sizes input)
 rest_is_one [] [] h = absurd (omega arith)
 rest_is_one [] (b ∷ bs) h = omega arith

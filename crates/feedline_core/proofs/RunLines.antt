@@ -21,12 +21,12 @@ more_lines_append : (us : List ℕ) (u : ℕ) → more_lines (us ++ u ∷ []) �
 more_lines_append [] u = append-nil (more_line u)
 more_lines_append (v ∷ us) u = ap (λ l. more_line v ++ l) (more_lines_append us u) ∙ sym (append_assoc (more_line v) (more_lines us) (more_line u))
 
--- the last number, or the one before
+-- the last of them, or what was before
 abbrev pub last_or : ℕ → List ℕ → ℕ
 last_or before [] = before
 last_or before (u ∷ us) = last_or u us
 
--- all bytes of the pieces, after those before
+-- all bytes of the pieces, behind those before
 abbrev all_fed : List ℕ → List (List ℕ) → List ℕ
 all_fed fed [] = fed
 all_fed fed (p ∷ ps) = all_fed (fed ++ p) ps
@@ -39,7 +39,7 @@ last_more : (before : ℕ) (us : List ℕ) (u : ℕ) → last_or before (us ++ u
 last_more before [] u = refl
 last_more before (v ∷ us) u = last_more v us u
 
--- as many pieces as need more, and then others
+-- pieces that are as many as ask for more, and then others
 module _ (limit : Option ℕ) where
   fit_more : (before : ℕ) (ps : List (List ℕ)) (us : List ℕ) → length us ≡ length ps → pieces_fit limit before ps us → (p : List ℕ) (u : ℕ) → admits limit (last_or before us + length p) ≡ true → pieces_fit limit before (ps ++ p ∷ []) (us ++ u ∷ [])
   fit_more before [] [] e h p u k = (k, tt)
@@ -79,7 +79,7 @@ module _ {S : Type 0} (r : Reading ℕ ℕ Message) (kept : S → Reading ℕ �
   leaves_before fed before [] qs (u ∷ us) h = absurd h
   leaves_before fed before (p ∷ ps) qs (u ∷ us) h = (h.0, h.1, leaves_before (fed ++ p) u ps qs us h.2)
 
-  -- a line for each of these pieces, and the number of bytes unread after the last
+  -- a line for each of these pieces, and so many bytes unread after the last
   pub record WrittenPieces (old now : Option (List ℕ)) (fed : List (List ℕ)) (last : ℕ) : Type 0 where
     pub unread : List ℕ
     pub count : length unread ≡ length fed
@@ -103,7 +103,7 @@ module _ {S : Type 0} (r : Reading ℕ ℕ Message) (kept : S → Reading ℕ �
         lines = subst (Appends old new) (sym (more_lines_append w.unread u)) (Appends-trans old now new (more_lines w.unread) (more_line u) w.lines a);
       }
 
-  -- in a loop over the pieces, after the first n were fed
+  -- in a loop over the pieces, of which the first n were fed
   pub one_more_at : (old now new : Option (List ℕ)) (pieces : List (List ℕ)) (n last : ℕ) → WrittenPieces old now (take n pieces) last → (piece : List ℕ) → n < length pieces → get_or pieces n piece ≡ piece → (u : ℕ) → u ≤ last + length piece → admits limit (last + length piece) ≡ true → LeavesBytes r kept (concatenated (take (n + 1) pieces)) u → Appends now new (more_line u) → WrittenPieces old new (take (n + 1) pieces) u
   one_more_at old now new pieces n last w piece within at u k f l a =
       let next : take n pieces ++ piece ∷ [] ≡ take (n + 1) pieces = ap (λ x. take n pieces ++ x ∷ []) (sym at) ∙ sym (take_more pieces n piece within) in
@@ -127,7 +127,7 @@ module _ {S : Type 0} (r : Reading ℕ ℕ Message) (kept : S → Reading ℕ �
     over_at : admits limit (last + length piece) ≡ false → next_is_over limit 0 pieces w.unread
     over_at f = subst (λ ps. next_is_over limit 0 ps w.unread) with_next (over_next limit 0 (take n pieces) w.unread w.count w.fit piece (drop (n + 1) pieces) (subst (λ m. admits limit (m + length piece) ≡ false) (sym w.is_last) f))
 
-    -- it is too long; the end of each piece before it was need of more
+    -- it is too long; at the end of each piece before it more was asked for
     stops_short : ((i : ℕ) → i < n → undecided_at r pieces i) → admits limit (last + length piece) ≡ false → RunsPieces r kept limit pieces old now (Err faults.TooLong)
     stops_short asked f = record {
       is = inr (inr (
@@ -150,7 +150,7 @@ module _ {S : Type 0} (r : Reading ℕ ℕ Message) (kept : S → Reading ℕ �
   pub fits_all : n ≡ length pieces → pieces_fit limit 0 pieces w.unread
   fits_all e = subst (λ ps. pieces_fit limit 0 ps w.unread) (take_all n pieces (omega arith)) w.fit
 
-  -- a decision after n pieces that needed more
+  -- a decision after n pieces that asked for more
   module _ (new : Option (List ℕ)) (fit : pieces_fit limit 0 pieces w.unread) where
     abbrev wrote : Answer Message UnexpectedParse → Result Bool Fault → Type 0
     wrote a result = MatchResult result (λ accepted. (accepted ≡ answer_accepts a) × Appends now new (answer_line a)) (λ why. why ≡ faults.Write)

@@ -1,4 +1,4 @@
--- a session that still runs: a piece fits, the bytes it leaves unread, and the room for the next piece
+-- a session that still runs: that a piece fits, what it leaves unread, and its room for the next piece
 use Rattle.std.proofs.Common.{ℕ, ◌+◌, ◌^◌, ◌<◌, ◌≤◌, ◌≡◌, ap, subst, List, ◌++◌, length, take, drop, get_or, Bool, true, false, refl, sym, ◌∙◌, arith, Result, Ok}
 use Rattle.std.proofs.lemmas.List.{length-append, length-drop, length-take-le, take-append-drop, take-append-le}
 use Rattle.combine_base.specs.Parser.Meaning.{Meaning}
@@ -25,7 +25,7 @@ module _ {P T R E A S : Type 0} (meaning : P → Meaning ℕ T R E A S) (valid :
     pub feeds_within : (a : Answer A UnexpectedParse) → Feeds meaning valid old new piece true (Ok a) → admits old.limit (length old.seen.unread + length piece) ≡ true
     feeds_within a h = (fed_now _ h).0.1
 
-    -- the bytes unread then are an end of those before and the piece
+    -- what is unread then is an end of what was and the piece
     pub feeds_end : Feeds meaning valid old new piece true (Ok answers.More) → length new.seen.unread ≤ length old.seen.unread + length piece
     feeds_end h =
         let l = (fed_now _ h).1.is.leaves in
@@ -38,7 +38,7 @@ has_room meaning m valid pieces n c far piece within at fits =
     let most = no_longer meaning m valid pieces n c far piece within at c in
     omega arith
 
--- need of more at the end of each piece so far
+-- more was asked for at the end of each piece so far
 pub asked_so_far : {P T R E A S : Type 0} (meaning : P → Meaning ℕ T R E A S) (m : Meaning ℕ T R E A S) (pieces : List (List T)) (n : ℕ) (c : Course P T S) → AskedAfterPieces meaning m (take n pieces) c → n ≤ length pieces → (i : ℕ) → i < n → undecided_at m.whole pieces i
 asked_so_far meaning m pieces n c far within i k =
     let count = length-take-le n pieces within in
@@ -52,7 +52,7 @@ module _ {P E S : Type 0} (meaning : P → Meaning ℕ ℕ (Unit {0}) E Message 
       let v = subst (λ us. m.rest c.state (record { position = c.seen.position; unread = us ++ x; is_open = is_open }) o) (sym far.unread) h in
       far.left x is_open (after c.seen.position false o) (o, refl, (far.same.rest c.state (extended x is_open c.seen) o).0 v)
 
-  -- of the bytes fed a session leaves these unread, from a state that goes on with them
+  -- of what was fed a session leaves these bytes unread, from a state that goes on with them
   pub leaves_unread : LeavesBytes m.whole m.rest (concatenated fed) (length c.seen.unread)
   leaves_unread = record {
     state = c.state;

@@ -1,4 +1,4 @@
--- a message has one outcome on a view, up to its value
+-- a message has one outcome on a view, but for its value
 use Rattle.std.proofs.Common.{ℕ, ◌≡◌, Bool, None, [], ◌∷◌, ◌++◌, nat_eq}
 use Rattle.std.specs.Global.{Vec}
 use Rattle.combine_base.specs.Parser.Meaning.{Meaning, IsSingle, MeansOne}

@@ -34,7 +34,7 @@ no_sizes words e = by_test (nat_le (length words) 64)
     by_test true = e
     by_test false = refl
 
--- the size that a word of up to seven digits writes, once all are read
+-- the size that a word of up to seven digits says, once all are read
 pub says_size : (word : List ℕ) (size i : ℕ) → 1 ≤ length word → length word ≤ 7 → length word ≤ i → all_digits word ≡ all_digits (drop i word) → number_from 0 word ≡ number_from size (drop i word) → size ≤ 1000000 → Some size ≡ size_of_word word
 says_size word size i h k e d v m =
     let digits = d ∙ at_drop_all all_digits word i e in

@@ -14,7 +14,7 @@ hexadecimal_append : (bs cs : List ℕ) → hexadecimal (bs ++ cs) ≡ hexadecim
 hexadecimal_append [] cs = refl
 hexadecimal_append (b ∷ bs) cs = ap (λ l. hexadecimal_digit (b / 16) ∷ hexadecimal_digit (b % 16) ∷ l) (hexadecimal_append bs cs)
 
--- in a loop over the parts to write, after the first n were written
+-- in a loop over what is written, of which the first n were
 module _ (old now new : Option (List ℕ)) (n : ℕ) where
   pub message_more : (ms : List (Vec ℕ)) (m : Vec ℕ) → n < length ms → get_or ms n m ≡ m → Appends old now (message_lines (take n ms)) → Appends now new (message_line m.items) → Appends old new (message_lines (take (n + 1) ms))
   message_more ms m within at written line =

@@ -1,9 +1,9 @@
--- the words of a command line: `frames` or a limit, if the first word is one of these, and piece sizes
+-- what the words of a command line say: that the input is frames, or a limit, if the first of them says one of these, and piece sizes
 use Rattle.std.specs.Prelude.{ℕ, List, [], ◌∷◌, Bool, true, false, nat_eq, if◌then◌else◌, Option, Some, None, codes}
 use Rattle.std.specs.Str.{bytes_eq}
 use Rattle.feedline_core.specs.Sizes.{size_of_word, sizes_of}
 
--- the rest after these bytes, where a word begins with them
+-- what follows these bytes, where a word begins with them
 abbrev pub without_prefix : List ℕ → List ℕ → Option (List ℕ)
 without_prefix [] word = Some word
 without_prefix (p ∷ ps) [] = None

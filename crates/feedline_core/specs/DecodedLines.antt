@@ -1,4 +1,4 @@
--- the lines of a decoded input, message after message
+-- what is written where an input is decoded, message after message
 use Rattle.std.specs.Prelude.{ℕ, ◌≡◌, ◌+◌, ◌≤◌, ◌⊎◌, List, ◌++◌, length, nat_eq, Bool, Option, Result, Ok, Err}
 use Rattle.std.specs.Global.{Vec}
 use Rattle.std.specs.Io.KnownBytes.{Appends}
@@ -15,7 +15,7 @@ use Rattle.feedline_core.specs.declared.fault.Fault.{Fault}
 use Rattle.feedline_core.specs.declared.fault.Fault.TheVariants as faults
 
 module _ (message : Reading ℕ ℕ (Vec ℕ)) (input : List ℕ) where
-  -- These lines: one for each message of the input, in order, and then one on whether no byte follows the last message.
+  -- These lines: one for each message of the input, in order, and then one that says whether no byte stands behind the last message.
   pub record PrintsMessages (text : List ℕ) (complete : Bool) : Type 0 where
     pub messages : List (Vec ℕ)
     pub end : BatchEnd

@@ -1,4 +1,4 @@
--- the text that the program writes where it gives up
+-- what the program writes where it gives up
 use Rattle.std.specs.Prelude.{ℕ, List, codes}
 use Rattle.feedline_core.specs.declared.fault.Fault.{Fault}
 use Rattle.feedline_core.specs.declared.fault.Fault.TheVariants.{Argument, Read, Input, Memory, Write, TooLong}

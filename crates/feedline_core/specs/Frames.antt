@@ -1,4 +1,4 @@
--- a message after its length
+-- a message behind its length
 use Rattle.std.specs.Prelude.{ℕ, [], ◌∷◌, ◌++◌, true}
 use Rattle.std.specs.Global.{Vec}
 use Rattle.combine_base.specs.Error.NoItems.{no_items}
@@ -14,7 +14,7 @@ use Rattle.feedline_core.specs.Messages.{step, byte_where}
 abbrev pub length_before : Reading ℕ ℕ ℕ
 length_before = whole_number 2 big_endian
 
--- n bytes, collected
+-- so many bytes, collected
 abbrev pub bytes : ℕ → Reading ℕ ℕ (Vec ℕ)
 bytes n = (count_min_max step no_items (appended (λ v. v.items) [] (λ bs b. bs ++ b ∷ []) ⊥) n n (byte_where (λ b. true))).whole
 

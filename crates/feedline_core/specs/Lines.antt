@@ -31,7 +31,7 @@ abbrev pub hexadecimal : List ℕ → List ℕ
 hexadecimal [] = []
 hexadecimal (b ∷ bs) = (hexadecimal_digit (b / 16) ∷ hexadecimal_digit (b % 16) ∷ []) ++ hexadecimal bs
 
--- the digits after a blank, where there are any
+-- the digits behind a blank, where there are any
 abbrev pub behind_blank : List ℕ → List ℕ
 behind_blank [] = []
 behind_blank (b ∷ bs) = codes " " ++ hexadecimal (b ∷ bs)

@@ -29,11 +29,11 @@ use Rattle.feedline_core.specs.declared.message.Message.TheVariants.{Set, Delete
 abbrev pub step : ℕ → ℕ → ℕ
 step p b = p + 1
 
--- one byte that passes a test
+-- one byte of which this holds
 abbrev pub byte_where : (ℕ → Bool) → Meaning ℕ ℕ (Unit {0}) UnexpectedParse ℕ (Unit {0})
 byte_where f = takes_one no_items (satisfied (of_function f)) (Unit {0}) AddsNothing
 
--- this byte, which errors name as expected
+-- this byte, which is said to be expected
 abbrev pub byte_meaning : ℕ → Meaning ℕ ℕ (Unit {0}) UnexpectedParse ℕ (Unit {0})
 byte_meaning b = takes_one no_items (satisfied (of_function (λ t. nat_eq t b))) (Unit {0}) (Only (Expected (OfToken b)))
 
@@ -51,18 +51,18 @@ digits = bytes_where is_ascii_digit
 abbrev pub all_four : ℕ → ℕ → ℕ → ℕ → Meaning ℕ ℕ (Unit {0}) UnexpectedParse (ℕ × ℕ × ℕ × ℕ) (TryState (PartialState4 (SequenceState (Unit {0}) (Unit {0})) (SequenceState (record { 0 : ℕ }) (Unit {0})) (SequenceState (ℕ × ℕ) (Unit {0})) (SequenceState (ℕ × ℕ × ℕ) (Unit {0}))))
 all_four a b c d = attempted step (tuple_4 step no_items (byte_meaning a) (byte_meaning b) (byte_meaning c) (byte_meaning d))
 
--- the bytes of `del `, all or none
+-- the bytes of `del `, so
 abbrev pub del : Meaning ℕ ℕ (Unit {0}) UnexpectedParse (ℕ × ℕ × ℕ × ℕ) (TryState (PartialState4 (SequenceState (Unit {0}) (Unit {0})) (SequenceState (record { 0 : ℕ }) (Unit {0})) (SequenceState (ℕ × ℕ) (Unit {0})) (SequenceState (ℕ × ℕ × ℕ) (Unit {0}))))
 del = all_four 100 101 108 32
 
--- the kept states of a message that deletes, and of one that sets
+-- what is kept of a message that deletes, and of one that sets
 abbrev pub DeleteState : Type 0 → Type 0
 DeleteState S = PartialState3 (SequenceState (Unit {0}) S) (SequenceState (record { 0 : ℕ × ℕ × ℕ × ℕ }) (TurnsState (Vec ℕ) (Unit {0}))) (SequenceState ((ℕ × ℕ × ℕ × ℕ) × Vec ℕ) (Unit {0}))
 
 abbrev pub SetState : Type 0
 SetState = PartialState4 (SequenceState (Unit {0}) (TurnsState (Vec ℕ) (Unit {0}))) (SequenceState (record { 0 : Vec ℕ }) (Unit {0})) (SequenceState (Vec ℕ × ℕ) (TurnsState (Vec ℕ) (Unit {0}))) (SequenceState (Vec ℕ × ℕ × Vec ℕ) (Unit {0}))
 
--- a parser before a deleted word, that word, and `;`
+-- what is read before a word that is deleted, that word, and `;`
 abbrev pub delete_after : {S : Type 0} → Meaning ℕ ℕ (Unit {0}) UnexpectedParse (ℕ × ℕ × ℕ × ℕ) S → Meaning ℕ ℕ (Unit {0}) UnexpectedParse Message (DeleteState S)
 delete_after before = mapped (tuple_3 step no_items before word (byte_meaning 59)) (λ parts m. m ≡ Delete parts.1)
 
@@ -74,7 +74,7 @@ delete = delete_after del
 abbrev pub set : Meaning ℕ ℕ (Unit {0}) UnexpectedParse Message SetState
 set = mapped (tuple_4 step no_items word (byte_meaning 61) digits (byte_meaning 59)) (λ parts m. m ≡ Set parts.0 parts.2)
 
--- this parser, or `set` where it is refused peeked
+-- the first of these and `set` that isn't refused peeked
 abbrev pub or_set : {S : Type 0} → Meaning ℕ ℕ (Unit {0}) UnexpectedParse Message S → Meaning ℕ ℕ (Unit {0}) UnexpectedParse Message (OrState S SetState)
 or_set first = either_of (both_merged {T = ℕ} {R = Unit {0}} no_items nat_cmp) first set
 

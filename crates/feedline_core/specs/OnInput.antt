@@ -1,4 +1,4 @@
--- the meaning of a run for the input itself: in place of its pieces, the sizes that they are cut to
+-- what a run says of the input itself: in place of its pieces, the sizes that they are cut to
 use Rattle.std.specs.Prelude.{ℕ, ◌≡◌, ◌+◌, ◌<◌, ◌≤◌, ◌⊎◌, List, length, take, sum, Bool, true, false, Option, Result, Ok, Err, ◌↔◌}
 use Rattle.std.specs.Io.KnownBytes.{Appends}
 use Rattle.combine_base.specs.Parser.Outcome.{Outcome, Undecided, shape}
@@ -11,15 +11,15 @@ use Rattle.feedline_core.specs.declared.fault.Fault.{Fault}
 use Rattle.feedline_core.specs.declared.fault.Fault.TheVariants as faults
 
 module _ {S : Type 0} (r : Reading ℕ ℕ Message) (kept : S → Reading ℕ ℕ Message) (limit : Option ℕ) (sizes input : List ℕ) where
-  -- These lines: those of the pieces, where the outcome is that of the whole input, and a piece has a line exactly if the meaning is undecided at its end, more being open.
+  -- These lines: those of the pieces, where the outcome is that of the whole input, and each piece at whose end, more being open, the meaning is undecided has a line, and no other.
   pub record PrintsOn (text : List ℕ) (accepted : Bool) : Type 0 where
     pub prints : Prints r kept limit (pieces_of sizes input) text accepted
     -- an outcome on the input, ended, and none has another shape
     pub is : on r input false prints.outcome
     pub only : (o : Outcome Message) → on r input false o → shape o ≡ shape prints.outcome
-    -- the piece of a size ends at the sum of the sizes so far, or with the input
+    -- the piece of a size ends where the sizes so far say, or with the input
     pub each : (i : ℕ) → i < length sizes → on r (take (sum (take (i + 1) sizes)) input) true Undecided ↔ i < length prints.unread
-    -- after the last size the rest is a piece, if it isn't empty
+    -- after the last size what is left is a piece, if it isn't empty
     pub rest : (sum sizes < length input) × on r input true Undecided ↔ length sizes < length prints.unread
     pub most : length prints.unread ≤ length sizes + 1
 

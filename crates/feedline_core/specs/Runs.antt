@@ -1,4 +1,4 @@
--- the lines for an input that is fed piece by piece to a parser of messages
+-- what is written where an input is fed piece by piece to a parser of messages
 use Rattle.std.specs.Prelude.{ℕ, ◌≡◌, ◌+◌, ◌<◌, ◌≤◌, ◌⊎◌, List, [], ◌∷◌, ◌++◌, length, drop, Bool, true, false, Option, Result, Ok, Err}
 use Rattle.std.specs.Io.KnownBytes.{Appends}
 use Rattle.combine_base.specs.Parser.Outcome.{Outcome, Accepted, Refused, Undecided, after}
@@ -20,7 +20,7 @@ is_accepted (Accepted v n k) = true
 is_accepted (Refused k) = false
 is_accepted Undecided = false
 
--- the line of an `Answer`, and whether it accepts
+-- the line of an answer, and whether it accepts
 abbrev pub answer_line : {E : Type 0} → Answer Message E → List ℕ
 answer_line answers.More = []
 answer_line (answers.Accepted m taken committed) = accepted_line m taken
@@ -36,7 +36,7 @@ abbrev pub more_lines : List ℕ → List ℕ
 more_lines [] = []
 more_lines (u ∷ us) = more_line u ++ more_lines us
 
--- a growth was refused, of the fed bytes or within the parse
+-- a growth was refused, of what is fed or within the parse
 abbrev pub IsWantOfMemory : SessionError → Type 0
 IsWantOfMemory errors.Memory = Unit {0}
 IsWantOfMemory (errors.Fault why) = why ≡ kinds.Memory
@@ -45,26 +45,26 @@ IsWantOfMemory errors.Closed = ⊥
 IsWantOfMemory errors.Failed = ⊥
 
 module _ {S : Type 0} (r : Reading ℕ ℕ Message) (kept : S → Reading ℕ ℕ Message) where
-  -- `unread` of the fed bytes are unread, and the others taken: a state exists whose meaning on the unread bytes and any further ones is that of the whole on all.
+  -- Of these bytes so many are unread, and the others taken: there is a state from which what is left means, on the unread bytes and whatever follows, what the whole does on all.
   pub record LeavesBytes (fed : List ℕ) (unread : ℕ) : Type 0 where
     pub state : S
     pub taken : ℕ
     pub split : taken + unread ≡ length fed
     pub means : (x : List ℕ) (is_open : Bool) (o : Outcome Message) → kept state (record { position = taken; unread = drop taken fed ++ x; is_open = is_open }) o → on r (fed ++ x) is_open (after taken false o)
 
-  -- The numbers of bytes unread after each of the first pieces, after `fed`, of which `before` were unread: each at most the number before it and the piece.
+  -- How many bytes are unread after each of the first pieces, behind those that were fed before, of which so many were unread: no more than these and the piece.
   abbrev pub leaves_bytes : List ℕ → ℕ → List (List ℕ) → List ℕ → Type 0
   leaves_bytes fed before pieces [] = Unit {0}
   leaves_bytes fed before [] (u ∷ us) = ⊥
   leaves_bytes fed before (p ∷ ps) (u ∷ us) = (u ≤ before + length p) × LeavesBytes (fed ++ p) u × leaves_bytes (fed ++ p) u ps us
 
--- Each piece that is fed fits, with the bytes that are unread before it: the pieces that need more and leave these numbers unread, and the next one, if there is one.
+-- Each piece that is fed fits, with the bytes that are unread before it: those that ask for more and leave so many unread, and the next one, if there is one.
 abbrev pub pieces_fit : Option ℕ → ℕ → List (List ℕ) → List ℕ → Type 0
 pieces_fit limit before [] us = Unit {0}
 pieces_fit limit before (p ∷ ps) [] = admits limit (before + length p) ≡ true
 pieces_fit limit before (p ∷ ps) (u ∷ us) = (admits limit (before + length p) ≡ true) × pieces_fit limit u ps us
 
--- the pieces that need more fit, and the next one doesn't
+-- those that ask for more do, and the next one doesn't
 abbrev pub next_is_over : Option ℕ → ℕ → List (List ℕ) → List ℕ → Type 0
 next_is_over limit before [] us = ⊥
 next_is_over limit before (p ∷ ps) [] = admits limit (before + length p) ≡ false

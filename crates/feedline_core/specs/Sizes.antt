@@ -1,4 +1,4 @@
--- the piece sizes that words write
+-- the piece sizes that words say
 use Rattle.std.specs.Prelude.{ℕ, ◌+◌, ◌-◌, ◌*◌, List, [], ◌∷◌, length, Bool, true, ◌&&◌, nat_le, if◌then◌else◌, Option, Some, None}
 use Rattle.std.specs.Char.{is_ascii_digit}
 
@@ -6,7 +6,7 @@ abbrev pub all_digits : List ℕ → Bool
 all_digits [] = true
 all_digits (b ∷ bs) = is_ascii_digit b && all_digits bs
 
--- the number that decimal digits write, after those of n
+-- the number that decimal digits write, behind those of n
 abbrev pub number_from : ℕ → List ℕ → ℕ
 number_from n [] = n
 number_from n (b ∷ bs) = number_from (n * 10 + (b - 48)) bs

@@ -6,7 +6,7 @@ ghost use Rattle.feedline_core.specs.Sizes.{size_of_word, sizes_of};
 use crate::fault::Fault;
 use std::alloc::Global;
 
-/// The most piece sizes.
+/// The most piece sizes that are taken.
 const MAX_SIZES: usize = 64;
 
 /// The most digits of a piece size.
@@ -15,22 +15,22 @@ const MAX_DIGITS: usize = 7;
 /// The largest piece size, in bytes.
 const MAX_SIZE: u32 = 1_000_000;
 
-/// The parsed arguments.
+/// What the arguments ask for.
 #[derive(Debug, Drop, PartialEq)]
 pub struct Args {
     /// Whether the input is frames.
     pub frames: bool,
-    /// The most bytes that may be unread, if limited.
+    /// How many bytes may be unread, if that is limited.
     pub limit: Option<usize>,
     /// The sizes of the pieces in bytes, in order.
     pub sizes: Vec<u32>,
 }
 
-/// Reads up to 64 piece sizes, each of one to seven decimal digits and at most 1,000,000; before them may be the word `frames`, or a word `limit=N`, with N written as a size is.
+/// Reads up to 64 piece sizes, each of one to seven decimal digits and at most 1,000,000; before them the word `frames` may stand, or a word `limit=N`, with N written as a size is.
 ///
 /// # Errors
 ///
-/// `Argument` if the words aren't of this form, and `Memory` if a growth was refused.
+/// `Argument` where the words aren't that, and `Memory` where a growth was refused.
 pub fn read_args(alloc: Global, words: &[&str]) -> Result<Args, Fault>
     ensures { MatchResult result
         (λ args. args_of (map (λ w. w.now) words.now) ≡ Some (args.frames, args.limit, args.sizes.items))
@@ -48,7 +48,7 @@ pub fn read_args(alloc: Global, words: &[&str]) -> Result<Args, Fault>
     }
 }
 
-/// Returns the rest after `limit=`, where a word begins so.
+/// What follows `limit=`, where a word begins so.
 fn limit_digits(word: &[u8]) -> Option<&[u8]>
     ensures { MatchOption result (limit_digits word.now ≡ None) (λ digits. limit_digits word.now ≡ Some digits.now) }
 {
@@ -86,7 +86,7 @@ fn read_limited(alloc: Global, digits: &[u8], words: &[&str]) -> Result<Args, Fa
     })
 }
 
-/// Returns the sizes that these words write, up to 64.
+/// The sizes that these words say, up to 64.
 fn read_sizes(alloc: Global, words: &[&str]) -> Result<Vec<u32>, Fault>
     ensures { MatchResult result
         (λ sizes. sizes_of (map (λ w. w.now) words.now) ≡ Some sizes.items)
@@ -107,7 +107,7 @@ fn read_sizes(alloc: Global, words: &[&str]) -> Result<Vec<u32>, Fault>
     Ok(sizes)
 }
 
-/// Returns the size that a word writes, if it writes one.
+/// The size that a word says, if it says one.
 fn read_size(word: &[u8]) -> Option<u32>
     ensures { result ≡ size_of_word word.now }
 {

@@ -21,11 +21,11 @@ use std::io::Write;
 
 /// Reads the frames of an input that is fed in pieces of these sizes, and then the rest as one piece: a frame is a length in two bytes, the highest first, and as many bytes, which are the message.
 ///
-/// Writes a line `message N` for each message, with N its length, and after it, if N isn't 0, a blank and its bytes as two lowercase hexadecimal digits each. The last line is `complete` if no byte follows the last message, else `incomplete`; returns whether it is `complete`.
+/// It writes a line `message N` for each message, with N its length, and after it, if N isn't 0, a blank and its bytes as two lowercase hexadecimal digits each. The last line is `complete` if no byte stands after the last message, else `incomplete`; it answers whether it is `complete`.
 ///
 /// # Errors
 ///
-/// `Memory` if a growth was refused and `Write` if a write failed; the writer's contents are then unspecified.
+/// `Memory` where a growth was refused and `Write` where a write failed; of what the writer then holds nothing is said.
 pub fn run_frames<W: Write>(
     alloc: Global,
     sizes: &[u32],
@@ -41,7 +41,7 @@ pub fn run_frames<W: Write>(
     decode(alloc, maker, &pieces, out)
 }
 
-/// Decodes the pieces as one input, writes a line for each message and one on the bytes after the last, and returns whether there are none. Pieces after an end other than `More` are not fed.
+/// Decodes the pieces as one input, writes a line for each message and one for what stands after the last, and answers whether nothing does. Pieces after an end other than `More` are not fed.
 fn decode<
     F: Maker<Output = P> + Drop,
     P: Parser<fed::Stream<u8>, Output = Vec<u8>> + Drop,
@@ -53,19 +53,18 @@ fn decode<
     ensures { DecodesInput (made_reading P.meaning (F.returns maker)) (concatenated (map (λ p. p.now) pieces.now)) (W.contents out.old) (W.contents out.new) result }
 {
     let mut decoder = Decoder::new(alloc, maker);
-    // The label names the loop's invariant.
     'pieces: for (index, piece) in pieces.iter().enumerate() {
         match decode_piece(&mut decoder, piece, out)? {
             BatchEnd::More => {}
             _ => return write_last(out, decoder.at_boundary(), &pieces[index + 1..]),
         }
     }
-    // Without pieces, nothing was parsed yet.
+    // Where there are no pieces, nothing was parsed yet.
     decode_piece(&mut decoder, &[], out)?;
     write_last(out, decoder.at_boundary(), &[])
 }
 
-/// Feeds a piece, writes the lines of the messages that it completes, and returns why there are no more.
+/// Feeds a piece, writes the lines of the messages that it completes, and answers why there are no more.
 fn decode_piece<
     F: Maker<Output = P>,
     P: Parser<fed::Stream<u8>, Output = Vec<u8>> + Drop,
@@ -101,7 +100,7 @@ fn feed<F: Maker<Output = P>, P: Parser<fed::Stream<u8>, Output = Vec<u8>> + Dro
     }
 }
 
-/// Returns the fault for the one error of a decoder that may go on and can count the piece: a growth was refused.
+/// The fault for the one error that a decoder has which may go on and can count the piece: a growth was refused.
 fn out_of_memory(error: DecodeError) -> Fault
     requires { IsRefusedGrowth error }
     ensures { result ≡ Fault.Memory }
@@ -113,7 +112,7 @@ fn out_of_memory(error: DecodeError) -> Fault
     }
 }
 
-/// Writes the last line, and returns whether it is `complete`: no byte follows the messages of the fed pieces, nor is any in the rest.
+/// Writes the last line, and answers whether it is `complete`: no byte stands after the messages of what was fed, nor in the rest.
 fn write_last<W: Write>(out: &mut W, at_boundary: bool, rest: &[&[u8]]) -> Result<bool, Fault>
     ensures { MatchResult result
         (λ complete. (complete ≡ (at_boundary && nat_eq (length (concatenated (map (λ p. p.now) rest.now))) 0)) × Appends (W.contents out.old) (W.contents out.new) (end_line complete))
@@ -128,7 +127,6 @@ fn write_last<W: Write>(out: &mut W, at_boundary: bool, rest: &[&[u8]]) -> Resul
 fn are_empty(pieces: &[&[u8]]) -> bool
     ensures { result ≡ nat_eq (length (concatenated (map (λ p. p.now) pieces.now))) 0 }
 {
-    // The label names the loop's invariant.
     'pieces: for piece in pieces {
         if !piece.is_empty() {
             return false;

@@ -23,7 +23,7 @@ pub enum Fault {
 }
 
 impl Fault {
-    /// Returns the line that the program writes, without its end.
+    /// The line that the program writes, without its end.
     fn text(self) -> &'static str
         ensures { result.now ≡ fault_text self }
     {

@@ -26,11 +26,11 @@ use std::io::Write;
 
 /// Reads the message of an input that is fed in pieces of these sizes, and then the rest as one piece: `del WORD;` or `WORD=DIGITS;`, where `WORD` is one or more of `a` to `z` and `DIGITS` one or more of `0` to `9`.
 ///
-/// Stops at the first decision. Writes a line `more N` for each piece that needs more, with N bytes unread, and then the line of the decision; returns whether the message is accepted.
+/// It stops at the first decision. It writes a line `more N` for each piece that needs more, with N bytes unread, and then the line of the decision; it answers whether that accepts.
 ///
 /// # Errors
 ///
-/// `Memory` if a growth was refused and `Write` if a write failed; the writer's contents are then unspecified.
+/// `Memory` where a growth was refused and `Write` where a write failed; of what the writer then holds nothing is said.
 pub fn run<W: Write>(alloc: Global, sizes: &[u32], input: &[u8], out: &mut W) -> Result<bool, Fault>
     ensures ran { RunsOnInput message.whole message.rest None sizes.now input.now (W.contents out.old) (W.contents out.new) result }
     ensures unlimited { MatchResult result (λ _. Unit {0}) (λ why. why ≢ Fault.TooLong) }
@@ -42,7 +42,7 @@ pub fn run<W: Write>(alloc: Global, sizes: &[u32], input: &[u8], out: &mut W) ->
 ///
 /// # Errors
 ///
-/// `TooLong` if a piece and the bytes that are unread before it are more than the limit: the lines of the pieces before it are then written. Otherwise as `run`.
+/// `TooLong` where a piece and the bytes that are unread before it are more than the limit: what is written then are the lines of the pieces before. Else as `run`.
 pub fn run_limited<W: Write>(
     alloc: Global,
     sizes: &[u32],
@@ -57,9 +57,9 @@ pub fn run_limited<W: Write>(
     drive_after(alloc, del, limit, &pieces, out)
 }
 
-/// Drives the parser of messages in which `del` parses the part before a deleted word.
+/// Drives the parser of messages in which `del` reads what stands before a word that is deleted.
 ///
-/// It is a function of its own, generic over `del`, since a parser composed in one function costs minutes of proof; likewise `drive_or_set`.
+/// It stands apart, over any `del`, since a parser that is composed in one function takes the prover minutes; and so does `drive_or_set`.
 fn drive_after<D: Parser<fed::Stream<u8>, Output = (u8, u8, u8, u8)> + Drop, W: Write>(
     alloc: Global,
     del: D,
@@ -78,7 +78,7 @@ fn drive_after<D: Parser<fed::Stream<u8>, Output = (u8, u8, u8, u8)> + Drop, W: 
     drive_or_set(alloc, delete, limit, pieces, out)
 }
 
-/// Drives the choice between `delete` and messages that set.
+/// Drives the choice of the messages that `delete` reads and those that set.
 fn drive_or_set<A: Parser<fed::Stream<u8>, Output = Message> + Drop, W: Write>(
     alloc: Global,
     delete: A,
@@ -128,7 +128,7 @@ fn made_set(parts: (Vec<u8>, u8, Vec<u8>, u8)) -> Message
     Message::Set { word, digits }
 }
 
-/// Feeds the pieces and then the end until there is a decision, and writes a line for each piece that needs more and one for the decision. Returns whether it accepts.
+/// Feeds the pieces and then the end until there is a decision, and writes a line for each piece that needs more and one for the decision. Answers whether that accepts.
 pub(crate) fn drive<P: Parser<fed::Stream<u8>, Output = Message> + Drop, W: Write>(
     alloc: Global,
     parser: P,
@@ -141,7 +141,6 @@ pub(crate) fn drive<P: Parser<fed::Stream<u8>, Output = Message> + Drop, W: Writ
     ensures { RunsPieces (P.meaning parser).whole (P.meaning parser).rest limit (map (λ p. p.now) pieces.now) (W.contents out.old) (W.contents out.new) result }
 {
     let mut session = begin(alloc, parser, limit);
-    // The label names the loop's invariant.
     'pieces: for piece in pieces {
         match feed(&mut session, piece)? {
             Answer::More => write_more(out, session.unread().len())?,
@@ -185,7 +184,7 @@ fn feed<P: Parser<fed::Stream<u8>>>(
     }
 }
 
-/// Ends the input of a session that still runs.
+/// Says to a session that still runs that the input has ended.
 fn end<P: Parser<fed::Stream<u8>>>(
     session: &mut Session<P, u8>,
 ) -> Result<Answer<P::Output, UnexpectedParse>, Fault>
@@ -200,7 +199,7 @@ fn end<P: Parser<fed::Stream<u8>>>(
     }
 }
 
-/// Returns the fault for the one other error of a session that still runs: a growth was refused.
+/// The fault for the one other error that a session has which still runs: a growth was refused.
 fn out_of_memory(error: SessionError) -> Fault
     requires { IsWantOfMemory error }
     ensures { result ≡ Fault.Memory }
@@ -214,7 +213,7 @@ fn out_of_memory(error: SessionError) -> Fault
     }
 }
 
-/// Writes the line of a decision, and returns whether it accepts.
+/// Writes the line of a decision, and answers whether it accepts.
 fn write_decision<W: Write>(
     out: &mut W,
     answer: &Answer<Message, UnexpectedParse>,

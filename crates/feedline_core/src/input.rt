@@ -1,4 +1,4 @@
-//! Reads the program's input.
+//! The input.
 ghost use Rattle.std.specs.Prelude.{◌≡◌, ◌≤◌, ◌<◌, ◌⊎◌, MatchResult, IfSome, length};
 
 use crate::fault::Fault;
@@ -8,11 +8,9 @@ use std::io::{ErrorKind, Read};
 /// The longest input, in bytes.
 pub const MAX_INPUT: usize = 1_048_576;
 
-/// Reads the whole input, at most `MAX_INPUT` bytes.
+/// Reads all there is, at most `MAX_INPUT` bytes.
 ///
-/// # Errors
-///
-/// `Input` if there are more, `Memory` if a growth was refused, and `Read` if a read failed.
+/// Answers `Input` where there is more, `Memory` where a growth was refused, and `Read` where a read failed.
 pub fn read_input<R: Read + Drop>(alloc: Global, reader: R) -> Result<Vec<u8>, Fault>
     ensures { MatchResult result
         (λ input. (length input.items ≤ 1048576) × IfSome (R.remaining reader) (λ all. all ≡ input.items))

@@ -1,4 +1,4 @@
-//! The work of the program `feedline`: it reads piece sizes and an input, feeds the input piece by piece to a parser of messages, and writes a line for each piece that needs more and one for the decision; or it feeds a decoder of frames, and writes a line for each of them.
+//! What the program `feedline` does: it reads piece sizes and an input, feeds the input piece by piece to a parser of messages, and writes a line for each piece that needs more and one for the decision; or it feeds a decoder of frames, and writes a line for each of them.
 #![tactic(auto)]
 
 mod args;

@@ -65,7 +65,6 @@ pub(crate) fn write_messages<W: Write>(out: &mut W, messages: &[Vec<u8>]) -> Res
         (λ _. Appends (W.contents out.old) (W.contents out.new) (message_lines messages.now))
         (λ why. why ≡ Fault.Write) }
 {
-    // The label names the loop's invariant.
     'messages: for message in messages {
         write_message(out, message)?;
     }
@@ -105,7 +104,6 @@ fn put_hexadecimal<W: Write>(out: &mut W, bytes: &[u8]) -> Result<(), Fault>
         (λ _. Appends (W.contents out.old) (W.contents out.new) (hexadecimal bytes.now))
         (λ why. why ≡ Fault.Write) }
 {
-    // The label names the loop's invariant.
     'bytes: for byte in bytes {
         let digits = [hexadecimal_digit(byte / 16), hexadecimal_digit(byte % 16)];
         put(out, &digits)?;
@@ -113,7 +111,7 @@ fn put_hexadecimal<W: Write>(out: &mut W, bytes: &[u8]) -> Result<(), Fault>
     Ok(())
 }
 
-/// Returns the lowercase hexadecimal digit of a number below 16.
+/// The lowercase hexadecimal digit of a number below 16.
 fn hexadecimal_digit(number: u8) -> u8
     requires { number < 16 }
     ensures { result ≡ hexadecimal_digit number }

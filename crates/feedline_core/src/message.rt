@@ -1,4 +1,4 @@
-//! The parts of a message.
+//! What a message says.
 
 /// A message that was read.
 #[derive(Debug, Drop, PartialEq)]

@@ -1,15 +1,13 @@
-//! Cuts an input into the pieces that it is fed in.
+//! The pieces that an input is fed in.
 ghost use Rattle.std.specs.Prelude.{◌≡◌, MatchResult, map};
 ghost use Rattle.feedline_core.specs.Cut.{pieces_of};
 
 use crate::fault::Fault;
 use std::alloc::Global;
 
-/// Cuts the input: one piece for each size, shorter where fewer bytes are left, and then the rest if it isn't empty.
+/// Cuts the input: one piece for each size, which takes what is left where less is left, and then the rest where there is one.
 ///
-/// # Errors
-///
-/// `Memory` if a growth was refused.
+/// Answers `Memory` where a growth was refused.
 pub(crate) fn cut<'a>(alloc: Global, sizes: &[u32], input: &'a [u8]) -> Result<Vec<&'a [u8]>, Fault>
     ensures { MatchResult result
         (λ pieces. map (λ p. p.now) pieces.items ≡ pieces_of sizes.now input.now)

@@ -1,4 +1,4 @@
--- a call of a parser with one outcome returns need of more exactly where its meaning is undecided
+-- a call of a parser that has one outcome asks for more exactly where its meaning is undecided
 use Rattle.std.proofs.Common.{◌≡◌, Bool, true, false, inl, inr, refl, ◌∙◌, subst, sym}
 use Rattle.combine_base.specs.Stream.View.{View}
 use Rattle.combine_base.specs.Parser.Answer.{World, CallRecord, Answers, asks_or_refuses, fails, peeks}

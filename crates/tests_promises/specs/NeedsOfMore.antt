@@ -24,7 +24,7 @@ IsFaultAnswer kind (PeekOk v) = ⊥
 IsFaultAnswer kind (CommitErr e) = is_fault_kind (kind e)
 IsFaultAnswer kind (PeekErr t) = ⊥
 
--- Need of more comes where the reading is undecided, and nowhere else. A fault may come anywhere.
+-- More is asked for where the reading is undecided, and nowhere else. A fault may come anywhere.
 pub record AsksExactly {P T V E : Type 0} (kind : E → Kind) (r : Reading P T V) (old new : View P T) (result : ParseResult V E) : Type 0 where
   pub nowhere_else : NeedsMore kind new.is_open result → r old Undecided
   pub there : r old Undecided → NeedsMore kind new.is_open result ⊎ IsFaultAnswer kind result

@@ -13,7 +13,7 @@ use combine::parser::token::token;
 use combine::parser::token::types::Token;
 use combine::stream::{Stream, fed};
 
-/// Parses this byte.
+/// This byte.
 fn this<Input: Stream<Token = u8>>(wanted: u8, input: &mut Input) -> StdParseResult<u8, Input>
 where
     Input::Error: ParseError<u8, Input::Range, Input::Position>,
@@ -22,7 +22,7 @@ where
     token(wanted).parse_stream(input).into_result()
 }
 
-/// Parses an `a`.
+/// An `a`.
 fn an_a<Input: Stream<Token = u8>>(input: &mut Input) -> StdParseResult<u8, Input>
 where
     Input::Error: ParseError<u8, Input::Range, Input::Position>,
@@ -31,7 +31,7 @@ where
     this(b'a', input)
 }
 
-/// A function, and one that also gets a value.
+/// A function, and one that is given a value too.
 fn of_functions() {
     puts_back_without_memory::<fed::Stream<u8>, _>(&parser(an_a));
     puts_back_without_memory::<fed::Stream<u8>, _>(&env_parser(b'a', this));

@@ -1,4 +1,4 @@
-//! Parsers that change the result of their part, or its errors.
+//! Parsers that change what their part answers, or what its errors say.
 
 use crate::promises::{keeps, keeps_without_memory};
 use combine::ParserExt;
@@ -23,7 +23,7 @@ where
     keeps_without_memory::<Input, _>(&ParserExt::<Input>::by_ref(&mut any));
 }
 
-/// Parsers that change errors.
+/// What errors say.
 fn told<Input: Stream<Token = u8>>()
 where
     Input::Error: ParseError<u8, Input::Range, Input::Position>,

@@ -1,4 +1,4 @@
-//! Promises of choices.
+//! Choices.
 
 use crate::promises::{keeps_and_asks, keeps_without_memory};
 use combine::error::ParseError;
@@ -47,7 +47,7 @@ where
     keeps_without_memory::<Input, _>(&choice((a, any, a, any, a, any, a, any)));
 }
 
-/// Variants of two and three parsers.
+/// One of two or three.
 fn variants<Input: Stream<Token = u8>>(input: &mut Input)
 where
     Input::Error: ParseError<u8, Input::Range, Input::Position>,

@@ -8,7 +8,7 @@ use combine::decode::types::Frame;
 use combine::stream::fed;
 use std::alloc::Global;
 
-/// However bytes are cut, the frames in them are the same, and no others; and they stay when more bytes follow.
+/// However bytes are cut, the frames in them are the same, and no others; and they stay where more bytes follow.
 fn frames(alloc: Global) {
     let maker = || -> Frame<fed::Stream<u8>>
         ensures { result ≡ frame_of alloc }

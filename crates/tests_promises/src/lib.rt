@@ -1,4 +1,4 @@
-//! The promises that a caller can cite of each constructor: one outcome, nothing unread on need of more or all put back, and no allocation. Nothing here is run: the functions only have to be proved.
+//! What a caller can cite of each constructor: that it has one outcome, leaves nothing unread on need of more or puts all back, and takes no memory. Nothing here is run: each function is proved, and that is all it is for.
 #![tactic(auto)]
 
 pub mod called;

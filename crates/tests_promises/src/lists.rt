@@ -8,7 +8,7 @@ use combine::parser::char::{string, string_cmp};
 use combine::parser::token::{none_of, one_of, tokens, tokens_cmp};
 use combine::stream::Stream;
 
-/// One token of a list, or one outside of it.
+/// One token of a list, or one that isn't.
 fn among<Input: Stream<Token = u8>>()
 where
     Input::Error: ParseError<u8, Input::Range, Input::Position>,
@@ -29,7 +29,7 @@ where
     keeps_and_asks(input, tokens_cmp([b'a', b'b'], equal));
 }
 
-/// The bytes of a list, equal or by comparison.
+/// The bytes of a list, and as they are compared.
 fn of_bytes<Input: Stream<Token = u8>>(input: &mut Input)
 where
     Input::Range: ShowsBytes,
@@ -40,7 +40,7 @@ where
     keeps_and_asks(input, bytes_cmp(b"ab", equal));
 }
 
-/// The characters of a text, equal or by comparison.
+/// The characters of a text, and as they are compared.
 fn of_characters<Input: Stream<Token = char>>()
 where
     Input::Error: ParseError<char, Input::Range, Input::Position>,

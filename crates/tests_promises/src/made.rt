@@ -1,4 +1,4 @@
-//! Parsers that a caller's function returns.
+//! Parsers that a caller's function answers.
 ghost use Rattle.std.specs.Prelude.{◌≡◌};
 ghost use Rattle.combine_choice.specs.declared.variants.either.Either.TheVariants.{Left};
 ghost use Rattle.combine_token.specs.Token.TokenParsers.{any_parser, token_parser};
@@ -14,7 +14,7 @@ use combine::parser::token::{any, token};
 use combine::stream::Stream;
 use std::alloc::Global;
 
-/// Returns a parser for an `a`, and leaves the stream in place.
+/// Answers a parser for an `a`, and leaves the stream in place.
 fn an_a<Input>(_input: &mut Input) -> Token<Input, u8>
     ensures left { _input.new ≡ _input.old }
     ensures made { result ≡ token_parser 97 }
@@ -22,7 +22,7 @@ fn an_a<Input>(_input: &mut Input) -> Token<Input, u8>
     token(b'a')
 }
 
-/// Returns a parser for this byte, and leaves the stream in place.
+/// Answers a parser for this byte, and leaves the stream in place.
 fn this<Input>(byte: &u8, _input: &mut Input) -> Token<Input, u8>
     ensures left { _input.new ≡ _input.old }
     ensures made { result ≡ token_parser byte.now }
@@ -43,7 +43,7 @@ where
 /// Any token, where another parser of the type would put it back.
 type OrPutBack<Input> = Either<Any<Input>, Try<Any<Input>>>;
 
-/// Returns the first, and leaves the stream in place.
+/// Answers the first, and leaves the stream in place.
 fn the_first<Input>(_input: &mut Input) -> OrPutBack<Input>
     ensures left { _input.new ≡ _input.old }
     ensures made { result ≡ Left any_parser }
@@ -51,7 +51,7 @@ fn the_first<Input>(_input: &mut Input) -> OrPutBack<Input>
     Either::Left(any())
 }
 
-/// A parser keeps its tokens if the returned one does, though another of its type would not.
+/// A parser keeps what is answered, though another of its type would not.
 fn answered_so<Input: Stream<Token = u8>>()
 where
     Input::Error: ParseError<u8, Input::Range, Input::Position>,
@@ -65,7 +65,7 @@ where
 /// Any token, where another parser of the type would begin again.
 type OrAnew<Input> = Either<Any<Input>, NoPartial<Any<Input>>>;
 
-/// Returns the first for each item, and leaves the stream in place.
+/// Answers the first for each item, and leaves the stream in place.
 fn the_first_of<Input>(_item: &u8, _input: &mut Input) -> OrAnew<Input>
     ensures left { _input.new ≡ _input.old }
     ensures made { result ≡ Left any_parser }

@@ -12,7 +12,7 @@ use combine::parser::token::{any, satisfy_map};
 use combine::stream::Stream;
 use std::alloc::{AllocError, Global};
 
-/// An open brace, or the outermost frame; any other token closes it.
+/// A brace that is open, or what stands round them all; any other token closes it.
 #[derive(Clone, Copy, Drop)]
 struct Brace;
 
@@ -73,7 +73,7 @@ fn lexeme_of(byte: u8) -> Option<Item<Plus, u8>> {
     })
 }
 
-/// The frames of an expression aren't the caller's, so no more is promised.
+/// What an expression has in memory is that of no caller, so no more is said of it.
 fn sums<Input: Stream<Token = u8>>(alloc: Global)
 where
     Input::Error: ParseError<u8, Input::Range, Input::Position>,

@@ -48,7 +48,7 @@ impl MutFunction<(), Bytes> for Semicolon {
     }
 }
 
-/// Returns the byte as a small letter; the stream stays in place.
+/// The same byte as a small letter; the stream stays in place.
 #[derive(Clone, Copy, Drop)]
 struct Small;
 
@@ -70,7 +70,7 @@ pub fn pairs(alloc: Global, pieces: &[&[u8]]) -> InPieces<((u8, u8), u8, (u8, u8
     parse_pieces(alloc, (twice, again, end), pieces)
 }
 
-/// Compares small and capital letters as equal.
+/// Small and capital letters are alike.
 #[derive(Clone, Copy, Drop)]
 struct AnyCase;
 

@@ -15,7 +15,7 @@ pub type InPieces<T> = Result<Answer<T, UnexpectedParse>, SessionError>;
 
 const REFUSED: UnexpectedParse = UnexpectedParse(Kind::Refused);
 
-/// Parses digits to their values.
+/// What each of several digits stands for.
 pub fn all_digits(alloc: Global, pieces: &[&[u8]]) -> InPieces<Vec<u8>> {
     let value = map(
         digit(),
@@ -26,7 +26,7 @@ pub fn all_digits(alloc: Global, pieces: &[&[u8]]) -> InPieces<Vec<u8>> {
     parse_pieces(alloc, many1::<Vec<u8>, _>(alloc, value), pieces)
 }
 
-/// Parses a digit to its value, and a semicolon.
+/// What a digit stands for, and a semicolon.
 pub fn ended_digit(alloc: Global, pieces: &[&[u8]]) -> InPieces<(u8, u8)> {
     let value = map(
         digit(),
@@ -37,7 +37,7 @@ pub fn ended_digit(alloc: Global, pieces: &[&[u8]]) -> InPieces<(u8, u8)> {
     parse_pieces(alloc, (value, token(b';')), pieces)
 }
 
-/// Parses a digit to its value, if it is less than eight.
+/// What a digit stands for, if it is less than eight.
 pub fn small_digit(alloc: Global, pieces: &[&[u8]]) -> InPieces<u8> {
     let value = and_then(
         digit(),
@@ -59,7 +59,7 @@ pub fn small_digit_flat(alloc: Global, pieces: &[&[u8]]) -> InPieces<u8> {
     parse_pieces(alloc, value, pieces)
 }
 
-/// Returns the number, if it is less than eight.
+/// The number, if it is less than eight.
 fn below_eight(number: u8) -> Result<u8, UnexpectedParse> {
     if number < 8 { Ok(number) } else { Err(REFUSED) }
 }

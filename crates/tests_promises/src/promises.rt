@@ -1,23 +1,23 @@
-//! The promises, each required of a parser by an empty function.
+//! The promises, each asked of a parser by a function that does no more.
 ghost use Rattle.tests_promises.specs.NeedsOfMore.{AsksExactly};
 
 use combine::error::ParseResult;
 use combine::parser::Parser;
 use combine::stream::Stream;
 
-/// Requires one outcome, and nothing unread on need of more.
+/// Is shown a parser that has one outcome, and on need of more leaves nothing unread.
 pub fn keeps<Input: Stream, P: Parser<Input>>(parser: &P)
     requires determined { P.determined parser.now }
     requires keeps { (P.meaning parser.now).keeps }
 {}
 
-/// Requires also that the parser allocates nothing.
+/// Is shown a parser that also asks for no memory.
 pub fn keeps_without_memory<Input: Stream, P: Parser<Input>>(parser: &P)
     requires determined { P.determined parser.now }
     requires keeps { (P.meaning parser.now).keeps × (P.meaning parser.now).heapless }
 {}
 
-/// Calls such a parser from the start. Unless there is a fault, it needs more exactly where its meaning is undecided.
+/// Calls such a parser from the start. Unless a fault stops it, it asks for more exactly where what it means is undecided.
 pub fn keeps_and_asks<Input: Stream, P: Parser<Input> + Drop>(
     input: &mut Input,
     parser: P,
@@ -32,19 +32,19 @@ pub fn keeps_and_asks<Input: Stream, P: Parser<Input> + Drop>(
     parser.parse_first(input, &mut state)
 }
 
-/// Requires one outcome, and nothing taken on need of more.
+/// Is shown a parser that has one outcome, and on need of more takes nothing.
 pub fn puts_back<Input: Stream, P: Parser<Input>>(parser: &P)
     requires determined { P.determined parser.now }
     requires puts_back { (P.meaning parser.now).puts_back }
 {}
 
-/// Requires also that the parser allocates nothing.
+/// Is shown a parser that also asks for no memory.
 pub fn puts_back_without_memory<Input: Stream, P: Parser<Input>>(parser: &P)
     requires determined { P.determined parser.now }
     requires puts_back { (P.meaning parser.now).puts_back × (P.meaning parser.now).heapless }
 {}
 
-/// Requires nothing unread on need of more.
+/// Is shown a parser that on need of more leaves nothing unread.
 pub fn keeps_alone<Input: Stream, P: Parser<Input>>(parser: &P)
     requires { (P.meaning parser.now).keeps }
 {}

@@ -10,7 +10,7 @@ use combine::parser::token::{any, token};
 use combine::stream::Stream;
 use std::alloc::Global;
 
-/// The tokens of a part are put back.
+/// What a part reads is put back.
 fn wrapped<Input: Stream<Token = u8>>()
 where
     Input::Error: ParseError<u8, Input::Range, Input::Position>,
@@ -24,7 +24,7 @@ where
     puts_back_without_memory::<Input, _>(&crlf());
 }
 
-/// Tokens up to a place.
+/// What stands before a place.
 fn up_to_a_place<Input: Stream<Token = u8>>(alloc: Global)
 where
     Input::Error: ParseError<u8, Input::Range, Input::Position>,

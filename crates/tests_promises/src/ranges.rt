@@ -18,7 +18,7 @@ use combine::parser::range::{
 use combine::parser::token::any;
 use combine::stream::{ByteRange, ByteStream, Range, RangeStream};
 
-/// A number of items, and items that pass a test.
+/// So many items, and what passes a test.
 fn beginnings<Input: RangeStream<Token = u8>>()
 where
     Input::Range: Range,
@@ -29,7 +29,7 @@ where
     puts_back_without_memory::<Input, _>(&take_while1(|byte: u8| byte.is_ascii_digit()));
 }
 
-/// The range that a parser takes.
+/// What a parser takes.
 fn recognized<Input: RangeStream<Token = u8>>()
 where
     Input::Range: Range,
@@ -40,7 +40,7 @@ where
     puts_back_without_memory::<Input, _>(&recognize_with_value((any, any)));
 }
 
-/// A range of bytes, and the bytes before one.
+/// A range of bytes, and what stands before one.
 fn of_slices() {
     let wanted = b"ab".as_slice();
     slices_are_fair::<u8>(wanted);
@@ -48,14 +48,14 @@ fn of_slices() {
     puts_back_without_memory::<&[u8], _>(&take_until_range(wanted));
 }
 
-/// A range of characters, and the characters before one.
+/// A range of characters, and what stands before one.
 fn of_texts() {
     texts_are_fair("ab");
     puts_back_without_memory::<&str, _>(&range("ab"));
     puts_back_without_memory::<&str, _>(&take_until_range("ab"));
 }
 
-/// The range before bytes.
+/// What stands before bytes.
 fn before_bytes<Input: ByteStream<Token = u8>>()
 where
     Input::Range: ByteRange,
@@ -67,7 +67,7 @@ where
     puts_back_without_memory::<Input, _>(&take_until_bytes(b"ab"));
 }
 
-/// The range before the place that a function finds.
+/// What stands before the place that a function finds.
 fn found<Input: RangeStream<Token = u8>>()
 where
     Input::Range: Range,
@@ -80,7 +80,7 @@ where
     puts_back_without_memory::<Input, _>(&take_fn(second));
 }
 
-/// A length, and then as many items.
+/// A length, and then so many items.
 fn prefixed<Input: RangeStream<Token = u8>>()
 where
     Input::Range: Range,

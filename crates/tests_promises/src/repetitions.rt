@@ -1,4 +1,4 @@
-//! Promises of repetitions.
+//! Repetitions.
 
 use crate::promises::{keeps, keeps_without_memory};
 use combine::error::ParseError;
@@ -11,7 +11,7 @@ use combine::parser::token::{any, satisfy, token};
 use combine::stream::Stream;
 use std::alloc::Global;
 
-/// Values are collected, which allocates, or dropped.
+/// Values are collected, which takes memory, or dropped.
 fn turns<Input: Stream<Token = u8>>(alloc: Global)
 where
     Input::Error: ParseError<u8, Input::Range, Input::Position>,
@@ -26,7 +26,7 @@ where
     keeps_without_memory::<Input, _>(&escaped(plain, b'\\', a));
 }
 
-/// Counted turns.
+/// So many turns.
 fn counted<Input: Stream<Token = u8>>(alloc: Global)
 where
     Input::Error: ParseError<u8, Input::Range, Input::Position>,
@@ -38,7 +38,7 @@ where
     keeps_without_memory::<Input, _>(&skip_count(2, any));
 }
 
-/// Elements between separators, and chains.
+/// What stands between separators, and chains.
 fn separated<Input: Stream<Token = u8>>(alloc: Global)
 where
     Input::Error: ParseError<u8, Input::Range, Input::Position>,

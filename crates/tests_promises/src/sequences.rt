@@ -31,7 +31,7 @@ where
     keeps_without_memory::<Input, _>(&(any, a, any, a, any, a, any, a));
 }
 
-/// Sequences that keep one value.
+/// Tuples of whose values one is kept.
 fn of_one_value<Input: Stream<Token = u8>>()
 where
     Input::Error: ParseError<u8, Input::Range, Input::Position>,
@@ -42,7 +42,7 @@ where
     keeps_without_memory::<Input, _>(&between(a, a, any));
 }
 
-/// A parser that a function returns.
+/// A parser that a function answers.
 fn answered<Input: Stream<Token = u8>>(input: &mut Input)
 where
     Input::Error: ParseError<u8, Input::Range, Input::Position>,

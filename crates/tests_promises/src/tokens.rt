@@ -1,4 +1,4 @@
-//! Promises of parsers of tokens.
+//! Parsers of tokens.
 
 use crate::promises::keeps_without_memory;
 use combine::error::ParseError;

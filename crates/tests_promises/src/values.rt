@@ -8,7 +8,7 @@ use combine::parser::combinator::{and_then, flat_map, from_str, map_input};
 use combine::parser::token::{any, value};
 use combine::stream::{Kind, Stream, fed};
 
-/// Returns the value of a digit.
+/// The digit that a byte is.
 fn digit_of(byte: u8) -> Result<u8, UnexpectedParse>
     ensures { MatchResult result (λ _. is_ascii_digit byte ≡ true) (λ e. (is_ascii_digit byte ≡ false) × (e.0 ≡ Kind.Refused)) }
 {
@@ -19,20 +19,20 @@ fn digit_of(byte: u8) -> Result<u8, UnexpectedParse>
     }
 }
 
-/// A value changed or refused.
+/// Changed or refused.
 fn judged() {
     keeps_without_memory::<fed::Stream<u8>, _>(&and_then(any(), digit_of));
     keeps_without_memory::<fed::Stream<u8>, _>(&flat_map(any(), digit_of));
 }
 
-/// Returns twice the byte, and leaves the stream in place.
+/// Twice the byte; the stream is left in place.
 fn doubled<Input>(byte: u8, _input: &mut Input) -> u16
     ensures { _input.new ≡ _input.old }
 {
     u16::from(byte) * 2
 }
 
-/// A value changed with the stream.
+/// Changed where the stream stands.
 fn seen<Input: Stream<Token = u8>>()
 where
     Input::Error: ParseError<u8, Input::Range, Input::Position>,
@@ -40,7 +40,7 @@ where
     keeps_without_memory::<Input, _>(&map_input(any(), doubled));
 }
 
-/// A value read from a text.
+/// Read from a text.
 fn read<Input: Stream<Token = u8>>()
 where
     Input::Error: ParseError<u8, Input::Range, Input::Position>,

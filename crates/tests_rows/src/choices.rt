@@ -1,4 +1,4 @@
-//! Rows of choices.
+//! Choices.
 
 use crate::rows::{Driver, Rows};
 use combine::choice;

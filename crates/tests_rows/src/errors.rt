@@ -1,4 +1,4 @@
-//! Rows of errors, by `easy_parse`.
+//! What errors say, by `easy_parse`.
 
 use crate::rows::{Driver, Rows};
 use combine::easy;

@@ -1,4 +1,4 @@
-//! Worked rows of the library's parsers: an input and its result, whole and over every cut. Each parser is composed in a plain function over any stream. They are compiled for tests only, so that they are proved once.
+//! Worked rows of the library's parsers: an input, and what is given for it, whole and over every cut. Each parser is composed in a plain function over any stream. They are compiled for tests only, so that they are proved once.
 #![tactic(auto)]
 
 #[cfg(test)]

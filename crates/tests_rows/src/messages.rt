@@ -1,4 +1,4 @@
-//! A session, and the messages of a decoder.
+//! A session, and messages that a decoder gives.
 
 use crate::show::{Show, said};
 use combine::decode::{Batch, BatchEnd, DecodeError, frame};
@@ -12,7 +12,7 @@ use example_callers::decoded::{Answered, all_words, answers};
 use std::alloc::{AllocError, Global};
 use std::process::Abort;
 
-/// Writes the result of a decoder for each piece.
+/// Writes what a decoder gave for each piece.
 fn written<V: Show>(alloc: Global, answers: Vec<Answered<V>>) -> Result<String, AllocError> {
     let mut text = String::new(alloc);
     for answered in answers {

@@ -44,7 +44,7 @@ where
     rows.check(length_prefix(value(u128::MAX)), &[("a", "refused peeked")])
 }
 
-/// Rows of the range before these bytes.
+/// Rows of what stands before these bytes.
 fn before<Input: Stream<Token = u8> + ByteStream, D: Driver<Input>, T: Lasting>(
     rows: &mut D,
     bytes: &'static [u8],
@@ -95,7 +95,7 @@ where
     )
 }
 
-/// Rows of the range before this text.
+/// Rows of what stands before this text.
 fn before_text<
     Input: Stream<Token = char> + RangeStream<Range = &'static str>,
     D: Driver<Input>,

@@ -68,7 +68,7 @@ where
     )
 }
 
-/// Rows of a number of digits, with commas between them.
+/// Rows of so many digits, with a comma between two.
 fn digits<Input: Stream<Token = u8>, D: Driver<Input>, T: Lasting>(
     alloc: Global,
     rows: &mut D,
@@ -128,7 +128,7 @@ where
     )
 }
 
-/// Rows of the tokens before this end.
+/// Rows of what stands before this end.
 fn up_to<Input: Stream<Token = u8>, P: Parser<Input> + Drop, D: Driver<Input>, T: Lasting>(
     alloc: Global,
     rows: &mut D,

@@ -8,7 +8,7 @@ use combine::{EasyParser, easy};
 use std::alloc::{AllocError, Global};
 use std::process::Abort;
 
-/// A text that lives as long as the program: `&'static str`. Functions over rows are generic over it, since the language refuses a call where a type argument names several lifetimes, as a parser with a text does, and the signature names `'static`.
+/// A text that stays as long as the program runs: `&'static str`. It is a type parameter of what takes rows, since the language refuses a call where a type argument names several lifetimes, as that of a parser with a text does, and the signature names `'static`.
 pub trait Lasting: Copy + Drop {
     /// Returns the text.
     fn text(self) -> &'static str;
@@ -24,14 +24,14 @@ type Row = (&'static str, &'static str);
 
 /// A way to go through the rows of a parser over one sort of stream.
 pub trait Driver<Input: Stream> {
-    /// Compares a row with the parser's result for it.
+    /// Compares a row with what a parser gives for it.
     fn check_row<P: Parser<Input>>(&mut self, parser: &mut P, row: Row)
     where
         P::Output: Show,
         requires { P.lawful parser.old }
         ensures { P.lawful parser.new };
 
-    /// Goes through the rows of a parser: each an input and its result.
+    /// Goes through the rows of a parser: each an input, and what is given for it.
     final fn check<P: Parser<Input> + Drop, T: Lasting>(&mut self, parser: P, rows: &[(T, T)])
     where
         P::Output: Show,
@@ -44,7 +44,7 @@ pub trait Driver<Input: Stream> {
     }
 }
 
-/// The rows with another result.
+/// The rows for which something else was given.
 #[derive(Drop)]
 pub struct Rows {
     alloc: Global,
@@ -62,11 +62,11 @@ impl Rows {
         }
     }
 
-    /// Fails if a row had another result.
+    /// Fails where something else was given for a row.
     ///
     /// # Errors
     ///
-    /// A row that ran out of memory.
+    /// A row that found no memory.
     pub fn finish(self, rt: &impl Abort) -> Result<(), AllocError> {
         for row in self.wrong {
             assert_eq!(rt; row.as_str(), "");
@@ -74,7 +74,7 @@ impl Rows {
         self.memory
     }
 
-    /// Keeps whether a row ran out of memory.
+    /// Keeps whether a row found no memory.
     fn keep(&mut self, compared: Result<(), AllocError>) {
         if compared.is_err() {
             self.memory = compared;
@@ -89,7 +89,7 @@ impl Rows {
         Ok(())
     }
 
-    /// Compares a row with the result of `easy_parse`.
+    /// Compares a row with what `easy_parse` gives for it.
     fn by_easy_parse<P: Parser<easy::Stream<TextStream<'static>>>>(
         &mut self,
         parser: &mut P,
@@ -104,7 +104,7 @@ impl Rows {
         self.compare(row.0, row.1, given)
     }
 
-    /// Compares a row with the result of `parse_cuts`, in one window and over every cut.
+    /// Compares a row with what `parse_cuts` gives for it, in one window and over every cut.
     fn by_windows<S: Windowed, P: Parser<MaybePartialStream<S::Located>>>(
         &mut self,
         parser: &mut P,
@@ -166,7 +166,7 @@ impl Driver<easy::Stream<TextStream<'static>>> for Rows {
     }
 }
 
-/// Returns the value that `easy_parse` returns for a text, or its error as text.
+/// Returns the value that `easy_parse` gives for a text, or what its error says.
 fn easily<P: Parser<easy::Stream<TextStream<'static>>>>(
     alloc: Global,
     parser: &mut P,
@@ -187,7 +187,7 @@ where
     }
 }
 
-/// Returns the result of `parse_cuts` for an input with these cuts, as text.
+/// Returns what `parse_cuts` gives for an input with these cuts, as text.
 fn over_windows<S: Windowed, P: Parser<MaybePartialStream<S::Located>>>(
     alloc: Global,
     parser: &mut P,
@@ -211,7 +211,7 @@ where
     Ok(text)
 }
 
-/// Returns the ends of the windows of a text that is cut after each character whose bit is set in `places`, each twice, after an empty one.
+/// Returns where the windows of a text end that is cut after each character whose bit is set in `places`, each twice, after an empty one.
 fn ends(alloc: Global, text: &str, places: u32) -> Result<Vec<usize>, AllocError> {
     let mut ends = Vec::new(alloc);
     ends.push(0)?;
@@ -227,7 +227,7 @@ fn ends(alloc: Global, text: &str, places: u32) -> Result<Vec<usize>, AllocError
     Ok(ends)
 }
 
-/// Returns the number of sets of places between tokens: 2 to the power of the number of tokens less one. An input of more than ten tokens isn't cut.
+/// Returns how many sets of places there are between tokens: 2 to the power of their number less one. An input of more than ten tokens isn't cut.
 fn sets_of_places(length: usize) -> u32 {
     let mut sets: u32 = 1;
     if length > 10 {

@@ -84,7 +84,7 @@ fn sequences(rt: HostRuntime) -> Result<(), AllocError> {
     rows.finish(&rt)
 }
 
-/// Returns how many parsers a sequence of eight of this parser counts as.
+/// Returns the number of parts of eight of a parser.
 fn count_of_8<Input: Stream, P: Parser<Input> + Copy>(p: P) -> u8 {
     let eight = (p, p, p, p, p, p, p, p);
     eight.parser_count().0
@@ -98,7 +98,7 @@ fn count_of_512<Input: Stream, P: Parser<Input> + Copy>(p: P) -> u8 {
     count_of_64::<Input, _>((p, p, p, p, p, p, p, p))
 }
 
-/// The number of parsers stops at 255.
+/// The number of parts stops at 255.
 #[test]
 fn numbers_of_parts(rt: HostRuntime) {
     assert_eq!(rt; count_of_64::<&[u8], _>(any()), 64);

@@ -1,4 +1,4 @@
-//! Parsers of bytes: one byte, classes of bytes, several bytes, the bytes before others, and binary integers.
+//! Parsers of bytes: one byte, classes of bytes, several bytes; what stands before some bytes; and binary integers.
 
 pub mod types;
 

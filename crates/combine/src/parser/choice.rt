@@ -1,4 +1,4 @@
-//! Choices: the first alternative that isn't refused peeked gives the result. `Dispatch3` to `Dispatch8` are the types of `dispatch!`.
+//! Choices: the first alternative that isn't refused peeked gives the result; and parsers that are one of several.
 
 pub use combine_choice::variants::{
     Dispatch3, Dispatch4, Dispatch5, Dispatch6, Dispatch7, Dispatch8,

@@ -1,4 +1,4 @@
-//! Parsers that change another parser's value, put its refusals back, look ahead, collect its tokens or set its errors' spans. `lazy` and `factory` get their parser from a maker; `Either` is one of two parsers.
+//! Parsers that change the value of another parser, keep a part of it or refuse it, put its refusals back, look ahead, collect its tokens or set the span of its errors; parsers that a maker returns; and `Either`.
 
 pub mod types;
 

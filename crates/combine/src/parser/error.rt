@@ -1,4 +1,4 @@
-//! Parsers that always refuse, and parsers that change the items of another parser's errors.
+//! Parsers that always refuse, and parsers that shape what the errors of another parser say.
 
 pub mod types;
 

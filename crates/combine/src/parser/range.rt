@@ -1,4 +1,4 @@
-//! Parsers of ranges: parts of the input, without a copy.
+//! Parsers of ranges: parts of the input, as they stand there.
 
 pub mod laws;
 pub mod types;

@@ -1,4 +1,4 @@
-//! Parsers in sequence: tuples of one to eight, parsers that keep one value, and those that a function returns. `struct_parser!` is at the root.
+//! Parsers one after another: tuples of one to eight, those of whose values one is kept, and those that a function returns. `struct_parser!` stands at the root.
 
 pub use combine_base::sequence::{
     PartialState1, PartialState2, PartialState3, PartialState4, PartialState5, PartialState6,

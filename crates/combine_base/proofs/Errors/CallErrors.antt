@@ -1,4 +1,4 @@
--- the error of a call, and how it becomes that of a call around it
+-- what the error of a call says, and how it becomes that of a call around it
 use Rattle.std.proofs.Common.{◌<◌, ◌≤◌, ◌≡◌, ◌+◌, arith, Bool, true, false, sym, subst, refl, ◌∙◌}
 use Rattle.combine_base.specs.Stream.View.{Moves}
 use Rattle.combine_base.specs.Parser.Meaning.{Meaning}
@@ -18,7 +18,7 @@ module _ {P T R A S E : Type 0} (w : World P T S E) (m : Meaning P T R E A S) (r
   peeked_refusal kinds.Reset p = absurd p
   peeked_refusal kinds.Lost p = absurd p
 
-  -- the stream and the state after a refusal or a fault
+  -- what a refusal or a fault leaves
   pub left_by : (e : E) → (w.kind e ≡ kinds.End → r.old.is_open ≡ true → ⊥) → Answers w m r (CommitErr e) → Leaves w r
   left_by e n p = by_kind (w.kind e) refl p.is
     where
@@ -45,7 +45,7 @@ module _ {P T R A S E : Type 0} (w : World P T S E) (m : Meaning P T R E A S) (r
       by_mark true j q = q
       by_mark false j q = absurd (cc)
 
-  -- a call doesn't change whether the list is open
+  -- a call leaves the mark of the list
   pub same_mark : (e : E) → Answers w m r (CommitErr e) → r.new.is_open ≡ r.old.is_open
   same_mark e p = by_kind (w.kind e) p.is
     where
@@ -78,7 +78,7 @@ abbrev pub around : {P T S S' E : Type 0} → World P T S E → (S' → Type 0) 
 around w fresh = record { step = w.step; kind = w.kind; heapless = w.heapless; counts_failures = w.counts_failures; fresh = fresh }
 
 module _ {P T R A B S S' E : Type 0} (w : World P T S E) (fresh : S' → Type 0) (m : Meaning P T R E A S) (m' : Meaning P T R E B S') (r : CallRecord P T S) (u : CallRecord P T S') where
-  -- the premises of a call around for an error that isn't need of more
+  -- what a call around owes for an error that isn't need of more
   pub record Settles : Type 0 where
     pub is_open : r.old.is_open ≡ u.old.is_open
     pub refuses : Refuses w m r true → Refuses (around w fresh) m' u true
@@ -119,7 +119,7 @@ module _ {P T R A S E : Type 0} (w : World P T S E) (m : Meaning P T R E A S) (u
   unreset e i l h = record { is = rw i (h, l) }
 
 module _ {P T R A B S S' E : Type 0} (w : World P T S E) (fresh : S' → Type 0) (m : Meaning P T R E A S) (m' : Meaning P T R E B S') (r : CallRecord P T S) (u : CallRecord P T S') where
-  -- the stream could not be put back to the start of a refusal, and an end of its unread tokens is left
+  -- the stream could not be put back to where a refusal began, and an end of what was unread there is left
   pub refusal_unreset : (t : Tracked E) → Answers w m r (PeekErr t) → (k : Kind) → (k ≡ kinds.Reset) × Moves w.step r.new u.new × (r.after.resets < u.after.resets) → r.before.resets ≤ r.after.resets → u.old ≡ r.old → u.before ≡ r.before → (w.fresh r.left → fresh u.left) → (e : E) → w.kind e ≡ k → Answers (around w fresh) m' u (CommitErr e)
   refusal_unreset t p k h x i j f e q =
       let y = (peeked_refusal w m r (w.kind t.error) p.is).leaves in

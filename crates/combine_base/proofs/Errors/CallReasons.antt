@@ -1,4 +1,4 @@
--- the errors that a refusal may have, by the result of a call
+-- the error that a refusal has, by how a call is answered
 use Rattle.std.proofs.Common.{◌≡◌, ◌∙◌, ◌⊎◌, inl, inr, Bool, true, false, refl, subst, sym}
 use Rattle.combine_base.specs.Error.Errors.{IsFault}
 use Rattle.combine_base.specs.Refusals.{NoToken}
@@ -58,16 +58,16 @@ module _ {V E : Type 0} (kind : E → Kind) (is_open : Bool) (says : Bool → E 
   reasons_need e i j = reasons_committed e (λ r. absurd (open_end is_open j (rw i at r)))
 
 module _ {V E : Type 0} (kind : E → Kind) (is_open : Bool) (f g : Bool → E → Type 0) where
-  -- the same result, if the errors that are allowed include those
+  -- the same answer's, where the errors that are allowed include those
   pub reasons_into : (result : ParseResult V E) → ((k : Bool) (e : E) → f k e → g k e) → Reasoned kind is_open f result → Reasoned kind is_open g result
   reasons_into result i r committed x h = i committed x (r committed x h)
 
--- a committed error, passed on as it is
+-- a committed error, handed on as it is
 pub reasons_hand_on : {V V' E : Type 0} (kind : E → Kind) (is_open : Bool) (f g : Bool → E → Type 0) (e : E) → ((x : E) → f true x → g true x) → Reasoned {V = V} kind is_open f (CommitErr e) → Reasoned {V = V'} kind is_open g (CommitErr e)
 reasons_hand_on kind is_open f g e i r true x h = i x (r true x (record { is = h.is }))
 reasons_hand_on kind is_open f g e i r false x h = absurd h.is
 
--- at the end of the tokens a committed error is need of more, or a fault
+-- where the end was looked for, a committed error is need of more, or a fault
 pub reasons_unended : {V V' E : Type 0} (kind : E → Kind) (heapless : Type 0) (is_open : Bool) (says : Bool → E → Type 0) (why : Kind) (e : E) → NoToken {V = V} kind heapless is_open why (CommitErr e) → why ≡ kinds.End → Reasoned {V = V'} kind is_open says (CommitErr e)
 reasons_unended {V} {V'} kind heapless is_open says why e h i = by_case h.is
   where
@@ -75,7 +75,7 @@ reasons_unended {V} {V'} kind heapless is_open says why e h i = by_case h.is
     by_case (inl p) = reasons_need kind is_open says e (p.0 ∙ i) (p.1 i)
     by_case (inr p) = reasons_fault kind is_open says e kinds.Memory p.0 tt
 
--- an error, passed on as it is, whatever the value would be
+-- an error, handed on as it is, whatever the value would be
 module _ {A B E : Type 0} (kind : E → Kind) (is_open : Bool) (says : Bool → E → Type 0) where
   pub reasons_err : (e : E) → Reasoned {V = A} kind is_open says (CommitErr e) → Reasoned {V = B} kind is_open says (CommitErr e)
   reasons_err e h = reasons_hand_on kind is_open says says e (λ x p. p) h

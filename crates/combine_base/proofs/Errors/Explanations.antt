@@ -32,7 +32,7 @@ module _ {P T R V S E : Type 0} (s : Observers T R P E) (m m' : Meaning P T R E 
   explained_by w (CommitErr x) b a p = record { is = λ i. absurd (subst (IsRefusal new.is_open) (ap s.kind p.is.0 ∙ p.is.1) i) }
   explained_by w (PeekErr t) b a p = record { is = record { own = e; left = left; refused = w; back = b; says = subst (λ x. AddsItems s m.heapless (AtToken m.adds old.unread) e x) (sym p.is.0) (as_before a) } }
 
--- the error of a refusal, by the kind of result
+-- the error of a refusal, by which kind of answer it is
 module _ {V E : Type 0} (kind : E → Kind) (is_open : Bool) (refuses : Bool → E → Type 0) where
   pub reason_committed : (e : E) → Reasoned {V = V} kind is_open refuses (CommitErr e) → IsRefusal is_open (kind e) → refuses true e
   reason_committed e h i = h true e (record { is = (refl, i) })
@@ -70,7 +70,7 @@ module _ {P T R V S E : Type 0} (w : World P T S E) (m : Meaning P T R E V S) (r
       by_kind kinds.Memory h = absurd h
       by_kind kinds.Lost h = absurd h
 
--- the stream was put back, and the expected items were added
+-- the stream was put back, and the error was made to say what was expected
 module _ {P T R V S E : Type 0} (step : P → T → P) (s : Observers T R P E) (counts_failures : Type 0) (fresh : S → Type 0) (m : Meaning P T R E V S) (r : CallRecord P T S) (new : View P T) (after : Failures) (back : new ≡ r.old) (unbroken : counts_failures → after ≡ r.after) where
   abbrev explained_world : World P T S E
   explained_world = world step s counts_failures fresh

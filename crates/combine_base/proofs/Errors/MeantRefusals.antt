@@ -25,7 +25,7 @@ use Rattle.combine_base.specs.declared.stream.Failures.{Failures}
 use Rattle.combine_base.specs.declared.stream.Kind.{Kind}
 use Rattle.combine_base.specs.declared.stream.Kind.TheVariants as kinds
 
--- a call whose refusals satisfy one relation satisfies one that it implies
+-- of a call that is known to refuse so, it is known to refuse otherwise
 pub reasoned_into : {V E : Type 0} {kind : E → Kind} {is_open : Bool} {a b : Bool → E → Type 0} {result : ParseResult V E} → ((k : Bool) (e : E) → a k e → b k e) → Reasoned kind is_open a result → Reasoned kind is_open b result
 reasoned_into h r k e x = h k e (r k e x)
 
@@ -36,7 +36,7 @@ reasoned_accepted a k e x = absurd x.is
 pub reasoned_peeked : {V E : Type 0} {kind : E → Kind} {is_open : Bool} (a : Bool → E → Type 0) {v : V} → Reasoned kind is_open a (PeekOk v)
 reasoned_peeked a k e x = absurd x.is
 
--- an error, in a result with another type of value
+-- an error, in an answer that has another value
 pub reasoned_error : {V W E : Type 0} {kind : E → Kind} {is_open : Bool} {a : Bool → E → Type 0} {e : E} → Reasoned {V = V} kind is_open a (CommitErr e) → Reasoned {V = W} kind is_open a (CommitErr e)
 reasoned_error r true x i = r true x (record { is = i.is })
 reasoned_error r false x i = absurd i.is
@@ -51,7 +51,7 @@ module _ {P T R V S E : Type 0} {fresh valid : S → Type 0} {m : Meaning P T R 
   reasons_at_rest true s d v w k e x = (h.reasons s (d refl) v w k e).1 x
   reasons_at_rest false s d v w k e x = x
 
-  -- and in its mode, from the state that the call got
+  -- and in its mode, from the state that the call was given
   reasons_in_mode : (first : Bool) (given s : S) → RunsFrom fresh first given s → (v w : View P T) (k : Bool) (e : E) → m.refuses_from s v w k e → begun_refuses m first given v w k e
   reasons_in_mode true given s d v w k e x = (h.reasons s (d.afresh refl) v w k e).0 x
   reasons_in_mode false given s d v w k e x = subst (λ y. m.refuses_from y v w k e) (d.kept refl) x
@@ -71,7 +71,7 @@ module _ {P T R V S E : Type 0} {fresh valid : S → Type 0} {m : Meaning P T R 
       by_case (CommitErr e) x = record { is = λ i. reasons_at_rest first s d old new true e (x.is i) }
       by_case (PeekErr t) x = record { is = record { own = x.is.own; left = x.is.left; refused = reasons_at_rest first s d old x.is.left false x.is.own x.is.refused; back = x.is.back; says = x.is.says } }
 
--- a result that is a refusal is a meant one
+-- an answer that is a refusal is the one that is meant
 module _ {P T R V S E : Type 0} {w : World P T S E} {m : Meaning P T R E V S} {r : CallRecord P T S} where
   committed_meant : (e : E) → Answers w m r (CommitErr e) → IsRefusal r.new.is_open (w.kind e) → Refuses w m r true
   committed_meant e p i = by_kind (w.kind e) p.is i
@@ -96,7 +96,7 @@ module _ {P T R V S E : Type 0} {w : World P T S E} {m : Meaning P T R E V S} {r
   refusal_is_meant (PeekErr t) p true e i = absurd i
   refusal_is_meant (PeekErr t) p false e i = (peeked_refusal w m r (w.kind t.error) p.is).meant
 
--- a refusal of a call is a meant one with an error that its parser may have
+-- a call refuses with what its parser refuses with where it refuses
 pub reasoned_meant : {P T R V S E : Type 0} {w : World P T S E} {m : Meaning P T R E V S} {r : CallRecord P T S} {y : ParseResult V E} → Answers w m r y → Reasoned w.kind r.new.is_open (begun_refuses m r.first r.state r.old r.new) y → Reasoned w.kind r.new.is_open (MeantRefusal (begun m r.first r.state) (begun_refuses m r.first r.state) r.old r.new) y
 reasoned_meant {y = y} p r k e i = record { meant = refusal_is_meant y p k e i.is; error = r k e i }
 
@@ -110,7 +110,7 @@ explained_meant {y = PeekOk v} p x = record { is = tt }
 explained_meant {y = CommitErr e} p x = record { is = λ i. record { meant = refusal_is_meant (CommitErr e) p true e (refl, i); error = x.is i } }
 explained_meant {y = PeekErr t} p x = record { is = refusal_meant (refusal_is_meant (PeekErr t) p false t.error refl) x.is }
 
--- the last part of a sequence, by its result
+-- the last part of a sequence, by what it answered
 module _ {P T R B C U E : Type 0} (errors : Observers T R P E) (m : Meaning P T R E B U) (own : Refusing P T E) (f : B → C) (old new : View P T) where
   by_answer : (c : Bool) (x : ParseResult B E) → Explained errors m own old new x → (k : Bool) (e : E) → refused_with errors.kind new.is_open (joined_answer c f x) k e → RefusesLast errors m own c old new k e
   by_answer c (CommitOk b) x k e i = absurd i
@@ -124,7 +124,7 @@ module _ {P T R B C U E : Type 0} (errors : Observers T R P E) (m : Meaning P T 
   by_answer false (PeekErr t) x false e i = record { is = inr (refl, subst (ExplainsRefusal errors m own old new) (sym i) x.is) }
 
 module _ {P T R B C S L U Z E : Type 0} {step : P → T → P} {errors : Observers T R P E} {counts_failures : Type 0} {last_fresh valid : U → Type 0} {fresh : Z → Type 0} {place : Z → SequencePlace S L} {m : Meaning P T R E B U} {c : Bool} {f : B → C} {kept : U → L} {left : Z} {old new : View P T} {f0 f1 : Failures} where
-  -- the errors of a last part that has run
+  -- what a last part that has run refuses with
   pub runs_reasons : {s : U} {y : ParseResult C E} → RunsLastPart (world step errors counts_failures last_fresh) errors valid fresh place m c f kept left old new f0 f1 y s → Reasoned errors.kind new.is_open (RefusesLast errors m (refusals_from m s) c old new) y
   runs_reasons {s} g k e i = by_answer errors m (refusals_from m s) f old new c g.answer (explained_meant g.answers g.explained) k e (subst (λ x. refused_with errors.kind new.is_open x k e) g.is i.is)
 

@@ -1,4 +1,4 @@
--- a call that continues from a later place, and a first-mode call, which is one from a default state
+-- a call that goes on from a later place, and a first-mode call, which is one from a default state
 use Rattle.std.proofs.Common.{◌≡◌, ◌≤◌, ◌⊎◌, inl, inr, Bool, true, false, arith, refl, subst}
 use Rattle.combine_base.specs.Stream.View.{View}
 use Rattle.combine_base.specs.Parser.Outcome.{Outcome}
@@ -24,7 +24,7 @@ need_or_not kinds.Reset b = inr (λ q. let e = q.0 in cc)
 need_or_not kinds.Lost b = inr (λ q. let e = q.0 in cc)
 
 module _ {P T V S E : Type 0} (w : World P T S E) where
-  -- the rest may be a reading with fewer outcomes
+  -- what is left may be a reading with fewer outcomes
   pub progress_left : (a b c : Reading P T V) (u v : View P T) (f g : Failures) → ((v : View P T) (o : Outcome V) → c v o → b v o) → Progress w a b u v f g → Progress w a c u v f g
   progress_left a b c u v f g h p = record {
     count = p.count;
@@ -44,7 +44,7 @@ module _ {P T V S E : Type 0} (w : World P T S E) where
       }
 
 module _ {P T R V S E : Type 0} (w : World P T S E) (m : Meaning P T R E V S) (r : CallRecord P T S) (first : Bool) (state : S) (old : View P T) (before : Failures) where
-  -- A call from one state, on one view, that becomes a call from another some tokens later: a result there is one of the whole.
+  -- A call from one state, on one view, that becomes a call from another some tokens later: what answers there answers the whole.
   module _ (p : Progress w (begun m first state) (begun m r.first r.state) old r.old before r.before) (none : m.puts_back → p.count ≡ 0) (reads : before.reads ≤ r.before.reads) (resets : before.resets ≤ r.before.resets) (lost : r.first ≡ false → m.lost r.state r.old → (first ≡ false) × m.lost state old) where
     abbrev inside : InsideCall w w.fresh m m r first state r.left old before false (begun m r.first r.state)
     inside = record { progress = p; reads = reads; resets = resets; refuses = λ k x. x; heapless = λ x. x; lost = lost }
@@ -79,10 +79,10 @@ module _ {P T R V S E : Type 0} (w : World P T S E) (valid : S → Type 0) (m : 
   lost_from true given s k v l = absurd (h.found s v (k.afresh refl) l)
   lost_from false given s k v l = (refl, subst (λ x. m.lost x v) (k.kept refl) l)
 
-  -- the result of a call from a state, whatever the mode
+  -- what a call from a state answers, whatever the mode
   pub at_rest : (r : CallRecord P T S) → (r.first ≡ true → w.fresh r.state) → (x : ParseResult V E) → Answers w m r x → Answers w m (call_from r.state r.left r.old r.new r.before r.after) x
   at_rest r d x a = becomes w m r false r.state r.old r.before (progress_here w (m.rest r.state) (begun m r.first r.state) r.old r.before (to_rest r.first r.state d)) (λ k. refl) (omega arith) (omega arith) (λ e l. (refl, l)) x a
 
-  -- and its result in its mode, from the state that it got
+  -- and what it answers in its mode, from the state that it was given
   pub in_mode : (first : Bool) (given s left : S) → RunsFrom w.fresh first given s → (old new : View P T) (before after : Failures) (x : ParseResult V E) → Answers w m (call_from s left old new before after) x → Answers w m (record { first = first; state = given; left = left; old = old; new = new; before = before; after = after }) x
   in_mode first given s left k old new before after x a = becomes w m (call_from s left old new before after) first given old before (progress_here w (begun m first given) (m.rest s) old before (from_rest first given s k)) (λ k. refl) (omega arith) (omega arith) (λ e l. lost_from first given s k old l) x a

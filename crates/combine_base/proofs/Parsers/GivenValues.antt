@@ -1,4 +1,4 @@
--- a value that a call returns is one that the parser gives
+-- a value that a call answers is one that the parser gives
 use Rattle.std.specs.Prelude.{ℕ, Bool, true, false}
 use Rattle.combine_base.specs.Stream.View.{View}
 use Rattle.combine_base.specs.Parser.Outcome.{Accepted}
@@ -19,7 +19,7 @@ module _ {Position Token Range Error Value State : Type 0} (valid : State → Ty
     pub good_peek_ok : GivesOnly valid m good → valid r.state → Answers w m r (PeekOk a) → good a
     good_peek_ok h k x = begun_good h r.first r.state k r.old a x.is.count false x.is.meant
 
--- parsers that mean the same give the same values
+-- what means the same gives the same
 module _ {Position Token Range Error Value State : Type 0} {valid : State → Type 0} {m m' : Meaning Position Token Range Error Value State} {good : Value → Type 0} where
   pub gives_same : MeansSame m m' → GivesOnly valid m good → GivesOnly valid m' good
   gives_same e h = record { whole = record { one = λ v a n c w. h.whole.one v a n c ((e.whole v (Accepted a n c)).1 w) }; rest = λ s k. record { one = λ v a n c w. (h.rest s k).one v a n c ((e.rest s v (Accepted a n c)).1 w) } }

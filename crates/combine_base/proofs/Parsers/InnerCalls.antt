@@ -1,4 +1,4 @@
--- a call inside another one, some tokens later: each result of it is one of the call around
+-- a call inside another one, some tokens later: each answer of it is one of the call around
 use Rattle.std.proofs.Common.{ℕ, ◌+◌, ◌-◌, ◌≤◌, ◌≡◌, Bool, true, false, ◌||◌, length, length-drop, arith, sym, subst, refl, ◌∙◌}
 use Rattle.combine_base.specs.Stream.View.{View, Takes}
 use Rattle.combine_base.specs.Parser.Outcome.{Outcome, Accepted, Refused, Undecided, after, or_true, or_false}
@@ -14,21 +14,21 @@ use Rattle.combine_base.specs.declared.error.tracked.Tracked.{Tracked}
 use Rattle.combine_base.specs.declared.error.result.ParseResult.TheVariants.{CommitOk, PeekOk, CommitErr, PeekErr}
 
 module _ {P T R A B S S' E : Type 0} (w : World P T S E) (fresh : S' → Type 0) (m : Meaning P T R E A S) (m' : Meaning P T R E B S') (r : CallRecord P T S) (first : Bool) (state left : S') (old : View P T) (before : Failures) where
-  -- the call around: it began before, and ends where the inner one does
+  -- the call around: it began before, and ends where the one inside does
   abbrev pub outer : CallRecord P T S'
   outer = record { first = first; state = state; left = left; old = old; new = r.new; before = before; after = r.after }
 
-  -- The rest of the call around, from where the inner one begins, has this reading; c is whether something was committed before.
+  -- What is left of the call around, where the one inside begins, has this reading; c says that something was committed before.
   pub record InsideCall (c : Bool) (here : Reading P T B) : Type 0 where
     pub progress : Progress w (begun m' first state) here old r.old before r.before
     pub reads : before.reads ≤ r.before.reads
     pub resets : before.resets ≤ r.before.resets
-    -- a refusal of the inner one is a refusal
+    -- what the one inside refuses is refused
     pub refuses : (k : Bool) → begun m r.first r.state r.old (Refused k) → here r.old (Refused (c || k))
     pub heapless : m'.heapless → m.heapless
     pub lost : r.first ≡ false → m.lost r.state r.old → (first ≡ false) × m'.lost state old
 
-  -- and what the inner one leaves on need of more is what the call around leaves
+  -- and what the one inside leaves on need of more is what the call around leaves
   pub record KeepsAround (here : Reading P T B) (count : ℕ) : Type 0 where
     pub undecided : begun m r.first r.state r.old Undecided → here r.old Undecided
     pub resumes : (n : ℕ) → Takes w.step n r.old r.new → Resumes (begun m r.first r.state) (m.rest r.left) n r.old r.new → Resumes here (m'.rest left) n r.old r.new
@@ -47,7 +47,7 @@ module _ {P T R A B S S' E : Type 0} {w : World P T S E} {fresh : S' → Type 0}
     same_open : r.old.is_open ≡ old.is_open
     same_open = takes_open w.step z.progress.count old r.old z.progress.taken
 
-    -- a result that isn't need of more leaves a default state
+    -- an answer that isn't need of more leaves a default state
     module _ (settled : w.fresh r.left → fresh left) where
       leaves : Leaves w r → Leaves (around w fresh) outside
       leaves p = record { count = z.progress.count + p.count; taken = takes_more w.step z.progress.count p.count old r.old r.new z.progress.taken p.taken; state = settled p.state }
@@ -74,7 +74,7 @@ module _ {P T R A B S S' E : Type 0} {w : World P T S E} {fresh : S' → Type 0}
       pub inside_fails : (e : E) → ((w.kind e ≡ kinds.End) × (r.new.is_open ≡ true) → ⊥) → Answers w m r (CommitErr e) → Answers (around w fresh) m' outside (CommitErr e)
       inside_fails e i p = settles w fresh m m' r outside e i p settling
 
-      -- a peeked refusal is committed if something was before
+      -- a peeked refusal is committed where something was before
       pub inside_refuses : (t : Tracked E) → Answers w m r (PeekErr t) → Answers (around w fresh) m' outside (refused_as c t)
       inside_refuses t p = record { is = by_commitment c refl }
         where
@@ -101,7 +101,7 @@ module _ {P T R A B S S' E : Type 0} {w : World P T S E} {fresh : S' → Type 0}
           by_commitment true i = committed i (w.kind t.error) p.is
           by_commitment false i = peeked i (w.kind t.error) p.is
 
-      -- an acceptance of the inner one is an acceptance, its value joined by f
+      -- what the one inside accepts is accepted, its value joined by f
       module _ (f : A → B) (takes : (a : A) (n : ℕ) (k : Bool) → begun m r.first r.state r.old (Accepted a n k) → here r.old (Accepted (f a) n (c || k))) where
         accepts : (a : A) (k : Bool) → Accepts w m r a k → Accepts (around w fresh) m' outside (f a) (c || k)
         accepts a k p = record {

@@ -1,4 +1,4 @@
--- promises of one meaning hold of another that is the same; checkpoints that hold over one call and then another
+-- what was promised of one meaning holds of another that is the same; what is passed on by one call and then by another
 use Rattle.std.proofs.Common.{Bool, true, false, arith}
 use Rattle.combine_base.specs.Stream.View.{View, extended}
 use Rattle.combine_base.specs.Parser.Outcome.{Outcome, Accepted, Refused, Undecided, after}

@@ -1,4 +1,4 @@
--- a call of a part that refused, failed or needed more is one of the mapped parser
+-- a call of a part that refused, failed or asked for more is one of the mapped parser
 use Rattle.std.proofs.Common.{ℕ, ◌<◌, List, Bool, true, false}
 use Rattle.combine_base.specs.Stream.View.{View, extended, MayFollow}
 use Rattle.combine_base.specs.Parser.Outcome.{Outcome, Accepted, Refused, Undecided, after, IsCommitted}

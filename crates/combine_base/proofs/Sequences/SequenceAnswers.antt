@@ -1,4 +1,4 @@
--- the results of a sequence, by those of its parts
+-- the answers of a sequence, by those of its parts
 use Rattle.std.proofs.Common.{ℕ, ◌≡◌, ◌≤◌, ◌⊎◌, inl, inr, Bool, true, false, ◌||◌, ◌↔◌, refl, ap, sym, subst, arith, zero-add}
 use Rattle.combine_base.specs.Stream.View.{View}
 use Rattle.combine_base.specs.Parser.Outcome.{Outcome, Accepted, Refused, Undecided}
@@ -24,7 +24,7 @@ use Rattle.combine_base.specs.declared.sequence.SequenceState.{SequenceState}
 use Rattle.combine_base.specs.declared.sequence.SequencePlace.{SequencePlace}
 use Rattle.combine_base.specs.declared.sequence.SequencePlace.TheVariants.{Before, Last}
 
--- the kept state of a second part is the parser m in a state, with c and f for what was before it
+-- what is kept of a second part is the parser m in a state, with c and f for what was before it
 pub record HoldsSecond {P T R E A B C L U : Type 0} (q : SecondPart P T E A B C L) (m : Meaning P T R E B U) (c : Bool) (f : B → C) (kept : U → L) : Type 0 where
   pub rest : (s : U) (v : View P T) (o : Outcome C) → q.rest (kept s) v o ↔ following c f (m.rest s) v o
   pub lost : (s : U) (v : View P T) → q.lost (kept s) v ↔ m.lost s v
@@ -84,7 +84,7 @@ module _ {P T R A B C S L Z E : Type 0} (step : P → T → P) (errors : Observe
     pub refused_before : (t : Tracked E) → begins_sequence place fresh left → Answers before_world m run (PeekErr t) → Answers whole_world both (call_from z left old mid f0 f1) (PeekErr t)
     refused_before t d a = inside_refuses inside (λ k. d) t a
 
-    -- they are accepted: the last part is left to run
+    -- they are accepted: the last part is left
     pub accepted_before : (valid : S → Type 0) → IsMeaning fresh valid m → valid s → (a : A) (c : Bool) → Accepts before_world m run a c → {U : Type 0} (last_fresh : U → Type 0) → Progress (world step errors counts_failures last_fresh) (both.rest z) (following c (q.join a) (q.whole a)) old mid f0 f1
     accepted_before valid h k a c x last_fresh = record {
       count = x.count;
@@ -158,7 +158,7 @@ module _ {P T R A B C S U Z E : Type 0} (step : P → T → P) (errors : Observe
       let p = progress_here part_world (all.rest z) (following l.committed (f l.value) (n.rest l.state)) old f0 (λ v o x. subst (λ p. rest_at step place m (independent errors f n) p v o) (sym e) x) in
       runs_answer step errors counts_failures fresh place m (independent errors f n) n last_fresh last_valid l.committed (f l.value) (after_values l.value l.committed) (next_holds errors f n l.value l.committed) l.state z left old old new f0 f0 f1 p (omega arith) (omega arith) (λ x. subst (λ p. lost_at step place m (independent errors f n) p old) (sym e) x) y g
 
-  -- a call that begins in the parts before it, which have such a result
+  -- a call that begins in the parts before it, which answer so
   module _ (valid : S → Type 0) (h : IsMeaning fresh valid m) (k : IsMeaning last_fresh last_valid n) (s stopped : S) (z left : Z) (e : place z ≡ Before s) (old mid new : View P T) (f0 f1 f2 : Failures) (reads : f0.reads ≤ f1.reads) (resets : f0.resets ≤ f1.resets) (y : ParseResult C E) where
     abbrev before : World P T S E
     before = world step errors counts_failures fresh

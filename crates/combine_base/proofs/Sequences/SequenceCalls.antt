@@ -23,7 +23,7 @@ use Rattle.combine_base.specs.declared.sequence.SequenceState.{SequenceState}
 use Rattle.combine_base.specs.declared.stream.Failures.{Failures}
 use Rattle.combine_base.specs.declared.stream.StreamOnce as stream
 
--- if the state was left as the call got it, and began the sequence, the one that is left does
+-- where the state was left as it was given, and that one begins the sequence, the one that is left does
 module _ {P T R A B C S U Z E : Type 0} {w : World P T U E} {errors : Observers T R P E} {valid : U → Type 0} {begun : Z → Type 0} {place : Z → SequencePlace S (SequenceState A U)} {m : Meaning P T R E B U} {left given : Z} (begins : begun given) {old new : View P T} {before after : Failures} {result : ParseResult C E} where
   runs_begun : {c : Bool} {f : B → C} {kept : U → SequenceState A U} {s : U} → RunsLastPart w errors valid (λ z. z ≡ given) place m c f kept left old new before after result s → RunsLastPart w errors valid begun place m c f kept left old new before after result s
   runs_begun {c} {f} {kept} r = record { stopped = r.stopped; answer = r.answer; answers = r.answers; explained = r.explained; is = r.is; leaves = by_need r.leaves }
@@ -55,7 +55,7 @@ module _ {Last Input Checkpoint T R P E A B C S U Z : Type 0} (place : Z → Seq
           answers = last_answers i.step observers i.counts_failures fresh last_fresh q.valid place f m (q.meaning last) from state at (i.view input) (i.view left) (i.failures input) (i.failures left) result e runs;
         }
 
-    -- and one that begins in the parts before it, which have such a result
+    -- and one that begins in the parts before it, which answer so
     pub sequence_called : {valid : S → Type 0} {m m' : Meaning P T R E A S} {mid : Input} {s kept : S} {answer : ParseResult A E} → ((s : S) → fresh s → valid s) → IsMeaning fresh valid m → IsMeaning last_fresh q.valid (q.meaning last) → place from ≡ places.Before s → valid_in place valid q.valid from → valid kept → MeansSame m m' → Passes (i.marks input) (i.marks mid) (i.failures input) (i.failures mid) → Answers (world i.step observers i.counts_failures fresh) m (call_from s kept (i.view input) (i.view mid) (i.failures input) (i.failures mid)) answer → ReasonedCall observers m false s (i.view input) (i.view mid) answer → CalledRest q i observers last_fresh (λ z. z ≡ given) place f last last' mid left kept state result answer → FollowsParts place f i observers fresh valid q m m' last last' input left from state result
     sequence_called {valid} {m} {m'} {mid} {s} {kept} {answer} starts h k e d stays same passes answers reasons l =
         let goes = goes_begun begun l.goes_on in

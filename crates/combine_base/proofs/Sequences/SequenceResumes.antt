@@ -1,4 +1,4 @@
--- the rest of a sequence when one of its parts has stopped
+-- what is left of a sequence when one of its parts has stopped
 use Rattle.std.proofs.Common.{ℕ, ◌≡◌, ◌<◌, List, Bool, true, false, refl, sym, ◌∙◌, ap, subst, arith, add-zero}
 use Rattle.combine_base.specs.Stream.View.{View, Takes, advanced, extended}
 use Rattle.combine_base.specs.Stream.Advance.{advanced_extended, advanced_twice, decided_stays}
@@ -8,7 +8,7 @@ use Rattle.combine_base.specs.Parser.Meaning.{Reading, IsReading}
 use Rattle.combine_base.specs.Sequence.Readings.{following, sequel, continues}
 use Rattle.combine_base.specs.Parser.Answer.{Resumes}
 
--- a part after others needs more
+-- a part that stands after others asks for more
 pub following_resumes : {P T A B : Type 0} (c : Bool) (f : A → B) (r t : Reading P T A) (n : ℕ) (old new : View P T) → Resumes r t n old new → Resumes (following c f r) (following c f t) n old new
 following_resumes c f r t n old new h = record {
   gives = λ x b o j w. (after n false w.0, h.gives x b w.0 j w.1, ap (after n false) w.2 ∙ sym (joined_since 0 c f n w.0));
@@ -19,7 +19,7 @@ module _ {P T A B C : Type 0} (step : P → T → P) (f : A → B → C) (q : A 
   there : (x : List T) (b : Bool) → extended x b new ≡ advanced step n (extended x b old)
   there x b = ap (extended x b) taken.rest ∙ sym (advanced_extended step n x b old taken.enough)
 
-  -- a part before the last one needs more
+  -- a part before the last one asks for more
   module _ (r t : Reading P T A) (h : Resumes r t n old new) where
     goes_on : (x : List T) (b : Bool) (p : Outcome A) (o : Outcome C) → continues step f q (extended x b new) p o → continues step f q (extended x b old) (after n false p) (after n false o)
     goes_on x b (Accepted a i c) o u =
@@ -39,7 +39,7 @@ module _ {P T A B C : Type 0} (step : P → T → P) (f : A → B → C) (q : A 
       committed = λ x b o j l w. committed_on x b w.0 o (h.committed x b w.0 j l w.1) w.2;
     }
 
-  -- the parts before the last one are accepted: the last is left to run
+  -- the parts before the last one are accepted: the last is left
   module _ (r : Reading P T A) (h : IsReading r) (a : A) (c : Bool) (w : r old (Accepted a n c)) where
     committed_last : 0 < n → (k : Bool) → c ≡ k → (p : Outcome B) → IsCommitted (joined 0 c (f a) p)
     committed_last l true e p = joined_committed 0 c (f a) p e

@@ -1,4 +1,4 @@
--- the results of a tuple of one, by those of its part
+-- the answers of a tuple of one, by those of its part
 use Rattle.std.proofs.Common.{◌≡◌, ◌⊎◌, inl, inr, Bool, true, false, refl, ap, sym, subst, arith, zero-add}
 use Rattle.combine_base.specs.Stream.View.{View}
 use Rattle.combine_base.specs.Parser.Outcome.{Outcome, Accepted, Refused, Undecided}

@@ -29,11 +29,11 @@ module _ {P T : Type 0} (step : P → T → P) where
       let e : length v.unread ≡ length (drop n u.unread) = ap (λ (x : View P T). length x.unread) t.rest in
       omega (arith, length-drop n u.unread)
 
-  -- a stream from which tokens were taken is ahead
+  -- who took tokens stands ahead
   pub takes_ahead : {n : ℕ} {u v : View P T} → Takes step n u v → Ahead step n u v
   takes_ahead t = record { enough = t.enough; position = ap (λ (x : View P T). x.position) t.rest; unread = ap (λ (x : View P T). x.unread) t.rest }
 
-  -- a read after i tokens got none
+  -- a read after i tokens gave none
   module _ (counts_failures : Type 0) (old now new : View P T) (b f g : Failures) (i : ℕ) (s : Takes step i old now) (h : b.reads ≤ f.reads) where
     found_end : FindsEnd counts_failures step now new f g → length old.unread ≡ i
     found_end e =
@@ -52,7 +52,7 @@ module _ {P T : Type 0} (step : P → T → P) where
     over_stopped d l kinds.Reset e = absurd e
     over_stopped d l kinds.Lost e = absurd e
 
--- the same of other views, as long, from which as many tokens are taken
+-- the same of other views, as long, from which as much is taken
 pub over_as : {P Q T : Type 0} (counts_failures : Type 0) (step : P → T → P) (step' : Q → T → Q) (u v : View P T) (x y : View Q T) (f g : Failures) → length x.unread ≡ length u.unread → ((n : ℕ) → Takes step n u v → Takes step' n x y) → (d : ℕ) (r : Result Unit Kind) → PassesOver counts_failures step u v f g d r → PassesOver counts_failures step' x y f g d r
 over_as counts_failures step step' u v x y f g l t d (Ok i) h = record { is = (t d h.is.0, h.is.1) }
 over_as counts_failures step step' u v x y f g l t d (Err k) h = record { is = (by_kind k h.is.0, record { count = h.is.1.count; taken = t h.is.1.count h.is.1.taken }) }
@@ -65,7 +65,7 @@ over_as counts_failures step step' u v x y f g l t d (Err k) h = record { is = (
     by_kind kinds.Reset h = h
     by_kind kinds.Lost h = h
 
--- all at once, for positions that are counts, and for those that are the length of the rest
+-- all at once, where positions are counts, and where they say how much is left
 module _ {T : Type 0} where
   pub takes_counted : (p i n q j : ℕ) (xs : List T) (b : Bool) → q ≡ p + n → j ≡ i + n → n ≤ length (drop i xs) → Takes one_more n (record { position = p; unread = drop i xs; is_open = b }) (record { position = q; unread = drop j xs; is_open = b })
   takes_counted p i n q j xs b e f h =

@@ -1,4 +1,4 @@
--- explained refusals, and the results of the drivers
+-- what a peeked refusal is made to say, and what the drivers answer
 use Rattle.std.specs.Prelude.{◌≡◌, ◌<◌, ◌⊎◌, List, [], ◌∷◌, true, false, Result, Ok, Err, Option, Some, None}
 use Rattle.combine_base.specs.Stream.View.{View, Moves}
 use Rattle.combine_base.specs.Error.Items.{ErrorItem, Unexpected, OfToken}
@@ -22,7 +22,7 @@ Broke kinds.End before after = ⊥
 Broke kinds.Memory before after = ⊥
 Broke kinds.Lost before after = ⊥
 
--- the unexpected token, if there is one, and then the items that a parser adds
+-- the token that stands there, if one does, and then what a parser adds
 abbrev pub AtToken : {T R : Type 0} → (List (ErrorItem T R) → Type 0) → List T → List (ErrorItem T R) → Type 0
 AtToken adds [] is = adds is
 AtToken adds (t ∷ ts) [] = ⊥
@@ -34,7 +34,7 @@ first_token [] = None
 first_token (t ∷ ts) = Some t
 
 module _ {P T : Type 0} (counts_failures : Type 0) (step : P → T → P) (marked : View P T → Type 0) (old new : View P T) (before after : Failures) where
-  -- the stream is put back, unless a read or reset fails, which leaves an end of the tokens that were unread there or before the call
+  -- the stream is put back, but for a failed read or reset, which leaves an end of what was unread there or before the call
   abbrev pub is_put_back : {A : Type 0} → (View P T → A → Type 0) → Result A Kind → Type 0
   is_put_back said (Ok a) = ((v : View P T) → marked v → (new ≡ v) × said v a) × (counts_failures → after ≡ before)
   is_put_back said (Err k) = Broke k before after × ((v : View P T) → marked v → Moves step old new ⊎ Moves step v new)
@@ -43,12 +43,12 @@ module _ {P T : Type 0} (counts_failures : Type 0) (step : P → T → P) (marke
   pub record LooksAt (result : Result (Option T) Kind) : Type 0 where
     pub is : is_put_back (λ v t. t ≡ first_token v.unread) result
 
-  -- the error gets the unexpected token and the expected items
+  -- the error says what stands there and what was expected
   pub record Explains {R E : Type 0} (s : Observers T R P E) (heapless : Type 0) (adds : List (ErrorItem T R) → Type 0) (e e' : E) (result : Result Unit Kind) : Type 0 where
     pub is : is_put_back (λ v u. AddsItems s heapless (AtToken adds v.unread) e e') result
 
 module _ {P T R V S E : Type 0} (s : Observers T R P E) (m : Meaning P T R E V S) (refuses : Refusing P T E) (old new : View P T) where
-  -- the parser's own error of a peeked refusal, and the items added to it
+  -- what the parser refused with, and what that error was then made to say
   pub record ExplainsRefusal (e : E) : Type 0 where
     pub own : E
     pub left : View P T
@@ -62,7 +62,7 @@ module _ {P T R V S E : Type 0} (s : Observers T R P E) (m : Meaning P T R E V S
   explained (CommitErr e) = IsRefusal new.is_open (s.kind e) → refuses old new true e
   explained (PeekErr t) = ExplainsRefusal t.error
 
-  -- a result whose refusals have such errors, a peeked one being put back and explained
+  -- an answer whose refusals have such errors, a peeked one being put back and explained
   pub record Explained (result : ParseResult V E) : Type 0 where
     pub is : explained result
 
@@ -71,13 +71,13 @@ module _ {P T R V S E : Type 0} (w : World P T S E) (m : Meaning P T R E V S) wh
   abbrev pub afresh : S → S → View P T → View P T → Failures → Failures → CallRecord P T S
   afresh s l old new before after = record { first = true; state = s; left = l; old = old; new = new; before = before; after = after }
 
-  -- a result from the start
+  -- an answer from the start
   pub record Starts (old new : View P T) (before after : Failures) (result : ParseResult V E) : Type 0 where
     pub state : S
     pub left : S
     pub answers : Answers w m (afresh state left old new before after) result
 
-  -- a result as std's `Result`, explained
+  -- an answer as a result, explained
   pub record Results (s : Observers T R P E) (refuses : Refusing P T E) (r : CallRecord P T S) (result : Result V E) : Type 0 where
     pub answer : ParseResult V E
     pub is : as_result answer ≡ result

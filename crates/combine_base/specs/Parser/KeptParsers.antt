@@ -2,7 +2,7 @@
 use Rattle.combine_base.specs.Parser.Meaning.{Meaning, MeansOne, MeansSame}
 
 module _ {Position Token Range Error Value State N : Type 0} (lawful : N → Type 0) (means : N → Meaning Position Token Range Error Value State) (given : N → Type 0) where
-  -- a lawful parser that means what one of the possible ones does, as it does after its calls
+  -- a lawful parser that means what one of those that are given does, as it does after calls of it
   pub record KeptOf (n : N) : Type 0 where
     pub is_lawful : lawful n
     pub parser : N
@@ -10,7 +10,7 @@ module _ {Position Token Range Error Value State N : Type 0} (lawful : N → Typ
     pub same : MeansSame (means parser) (means n)
 
 module _ {Position Token Range Error Value State : Type 0} {valid : State → Type 0} {m m' : Meaning Position Token Range Error Value State} where
-  -- a meaning that is the same has one outcome too
+  -- what means the same has one outcome too
   pub means_one_as : MeansSame m m' → MeansOne valid m → MeansOne valid m'
   means_one_as h k = record {
     whole = record { one = λ v o o' w w'. k.whole.one v o o' ((h.whole v o).1 w) ((h.whole v o').1 w') };

@@ -1,4 +1,4 @@
--- the precondition and the postcondition of a parser's call, each as one fact about the records of the parser and of its stream
+-- what a call of a parser needs and promises, each as one fact about the records of the parser and of its stream
 use Rattle.std.specs.Prelude.{Bool}
 use Rattle.combine_base.specs.Parser.Answer.{Answers, world}
 use Rattle.combine_base.specs.Error.Errors.{Observers}
@@ -10,12 +10,12 @@ use Rattle.combine_base.specs.declared.parser.Parser as parser
 use Rattle.combine_base.specs.declared.stream.StreamOnce as stream
 
 module _ {Self Input Output State Checkpoint Token Range Position Error : Type 0} (p : parser.Ghosts Self Input State Output Checkpoint Token Range Position Error) where
-  -- the precondition of a call from a state
+  -- what a call from a state needs
   pub record Ready (self : Self) (state : State) : Type 0 where
     pub lawful : p.lawful self
     pub valid : p.valid state
 
-  -- the postcondition of a call
+  -- what a call promises, of what was before and after it
   pub record CallPromises (i : stream.Ghosts Input Token Range Position Error) (observers : Observers Token Range Position Error) (fresh : State → Type 0) (old new : Self) (input left : Input) (first : Bool) (from state : State) (result : ParseResult Output Error) : Type 0 where
     pub lawful : p.lawful new
     pub valid : p.valid state

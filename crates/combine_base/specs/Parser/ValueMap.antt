@@ -1,4 +1,4 @@
--- the value changed by a function, which is given by its relation; kind and count kept
+-- the value changed by a function, which is known by its relation; kind and count kept
 use Rattle.std.specs.Prelude.{◌≡◌, refl, List, Bool, true, ◌↔◌}
 use Rattle.combine_base.specs.Stream.View.{View, extended}
 use Rattle.combine_base.specs.Parser.Outcome.{Outcome, Accepted, Refused, Undecided, IsDecided, shape}
@@ -13,7 +13,7 @@ module _ {P T A B : Type 0} where
   abbrev pub mapped : {R E S : Type 0} → Meaning P T R E A S → (A → B → Type 0) → Meaning P T R E B S
   mapped m f = record { whole = mapped_reading m.whole f; rest = λ s. mapped_reading (m.rest s) f; lost = m.lost; keeps = m.keeps; puts_back = m.puts_back; heapless = m.heapless; adds = m.adds; refuses = m.refuses; refuses_from = m.refuses_from }
 
-  -- an outcome of the mapped reading comes from one of the reading, of the same shape
+  -- an outcome of the mapped reading stands on one of the reading, of the same shape
   abbrev under : (r : Reading P T A) (f : A → B → Type 0) (v : View P T) (o : Outcome B) → mapped_reading r f v o → (i : Outcome A) × r v i × shape i ≡ shape o
   under r f v (Accepted b n k) p = (Accepted p.0 n k, p.1, refl)
   under r f v (Refused k) p = (Refused k, p, refl)

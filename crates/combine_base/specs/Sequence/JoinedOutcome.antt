@@ -1,9 +1,9 @@
--- the outcome of a parser, joined to values and tokens before it
+-- the outcome of a parser, joined to what was before it
 use Rattle.std.specs.Prelude.{ℕ, ◌+◌, ◌≡◌, Bool, true, false, ◌||◌, refl}
 use Rattle.std.proofs.Common.{arith, ap, sym, ◌∙◌}
 use Rattle.combine_base.specs.Parser.Outcome.{Outcome, Accepted, Refused, Undecided, after, shape, IsDecided, IsCommitted, or_assoc, or_true}
 
--- after i tokens, committed if c is, the value joined by f to those before it
+-- i tokens taken before, committed if c is, the value joined by f to those before it
 abbrev pub joined : {A B : Type 0} → ℕ → Bool → (A → B) → Outcome A → Outcome B
 joined i c f (Accepted a n k) = Accepted (f a) (i + n) (c || k)
 joined i c f (Refused k) = Refused (c || k)
@@ -47,7 +47,7 @@ module _ {A B : Type 0} (i : ℕ) (c : Bool) (f : A → B) where
   shape_joined (Refused d) = refl
   shape_joined Undecided = refl
 
-  -- more tokens before
+  -- tokens taken before these
   pub joined_later : (n : ℕ) (o : Outcome A) → after n false (joined i c f o) ≡ joined (n + i) c f o
   joined_later n (Accepted a m d) = let e : n + (i + m) ≡ n + i + m = omega arith in cc
   joined_later n (Refused d) = refl
@@ -59,7 +59,7 @@ module _ {A B : Type 0} (i : ℕ) (c : Bool) (f : A → B) where
   joined_since n (Refused d) = refl
   joined_since n Undecided = refl
 
-  -- committed before, or by itself
+  -- committed by what was before, or by itself
   pub joined_committed : (o : Outcome A) → c ≡ true → IsCommitted (joined i c f o)
   joined_committed (Accepted a m d) e = rw e refl
   joined_committed (Refused d) e = rw e refl
@@ -87,7 +87,7 @@ joined_none (Accepted a n j) = let i : 0 + n ≡ n = omega arith in cc
 joined_none (Refused j) = refl
 joined_none Undecided = refl
 
--- a part after two parts, of which one or the other was committed
+-- what comes after two parts, of which one or the other was committed
 pub joined_twice : {B C : Type 0} (c k : Bool) (b : B) (p : Outcome C) → joined 0 (c || k) unchanged p ≡ joined 0 c unchanged (joined 0 k (last_value b) p)
 joined_twice c k b (Accepted a n j) = let e = or_assoc c k j in let i : 0 + n ≡ 0 + (0 + n) = omega arith in cc
 joined_twice c k b (Refused j) = ap Refused (or_assoc c k j)

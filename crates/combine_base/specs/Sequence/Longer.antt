@@ -28,7 +28,7 @@ place_5 (five.E at) = Last at
 abbrev pub begins_5 : {A B C D E : Type 0} → (A → Type 0) → PartialState5 A B C D E → Type 0
 begins_5 fresh = begins_sequence place_5 (begins_4 fresh)
 
--- the kept state of five parts, with such values and states
+-- what is kept of five parts, with such values and states
 abbrev pub Kept5 : (A B C D SA SB SC SD SE : Type 0) → Type 0
 Kept5 A B C D SA SB SC SD SE = PartialState5 (SequenceState (Unit {0}) SA) (SequenceState (record { 0 : A }) SB) (SequenceState (A × B) SC) (SequenceState (A × B × C) SD) (SequenceState (A × B × C × D) SE)
 
@@ -66,7 +66,7 @@ place_6 (six.F at) = Last at
 abbrev pub begins_6 : {A B C D E F : Type 0} → (A → Type 0) → PartialState6 A B C D E F → Type 0
 begins_6 fresh = begins_sequence place_6 (begins_5 fresh)
 
--- the kept state of six parts, with such values and states
+-- what is kept of six parts, with such values and states
 abbrev pub Kept6 : (A B C D E SA SB SC SD SE SF : Type 0) → Type 0
 Kept6 A B C D E SA SB SC SD SE SF = PartialState6 (SequenceState (Unit {0}) SA) (SequenceState (record { 0 : A }) SB) (SequenceState (A × B) SC) (SequenceState (A × B × C) SD) (SequenceState (A × B × C × D) SE) (SequenceState (A × B × C × D × E) SF)
 
@@ -105,7 +105,7 @@ place_7 (seven.G at) = Last at
 abbrev pub begins_7 : {A B C D E F G : Type 0} → (A → Type 0) → PartialState7 A B C D E F G → Type 0
 begins_7 fresh = begins_sequence place_7 (begins_6 fresh)
 
--- the kept state of seven parts, with such values and states
+-- what is kept of seven parts, with such values and states
 abbrev pub Kept7 : (A B C D E F SA SB SC SD SE SF SG : Type 0) → Type 0
 Kept7 A B C D E F SA SB SC SD SE SF SG = PartialState7 (SequenceState (Unit {0}) SA) (SequenceState (record { 0 : A }) SB) (SequenceState (A × B) SC) (SequenceState (A × B × C) SD) (SequenceState (A × B × C × D) SE) (SequenceState (A × B × C × D × E) SF) (SequenceState (A × B × C × D × E × F) SG)
 
@@ -145,7 +145,7 @@ place_8 (eight.H at) = Last at
 abbrev pub begins_8 : {A B C D E F G H : Type 0} → (A → Type 0) → PartialState8 A B C D E F G H → Type 0
 begins_8 fresh = begins_sequence place_8 (begins_7 fresh)
 
--- the kept state of eight parts, with such values and states
+-- what is kept of eight parts, with such values and states
 abbrev pub Kept8 : (A B C D E F G SA SB SC SD SE SF SG SH : Type 0) → Type 0
 Kept8 A B C D E F G SA SB SC SD SE SF SG SH = PartialState8 (SequenceState (Unit {0}) SA) (SequenceState (record { 0 : A }) SB) (SequenceState (A × B) SC) (SequenceState (A × B × C) SD) (SequenceState (A × B × C × D) SE) (SequenceState (A × B × C × D × E) SF) (SequenceState (A × B × C × D × E × F) SG) (SequenceState (A × B × C × D × E × F × G) SH)
 

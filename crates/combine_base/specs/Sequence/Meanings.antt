@@ -1,4 +1,4 @@
--- the meaning of one parser and then another, with a state that is in either
+-- the meaning of one parser and then another, with a state that stands in either
 use Rattle.std.specs.Prelude.{◌≡◌, ◌⊎◌, ◌↔◌, Bool, refl}
 use Rattle.std.proofs.Common.{inl, inr, sym, subst}
 use Rattle.combine_base.specs.Error.Errors.{Observers}
@@ -13,7 +13,7 @@ use Rattle.combine_base.specs.declared.sequence.SequenceState.{SequenceState}
 use Rattle.combine_base.specs.declared.sequence.SequencePlace.{SequencePlace}
 use Rattle.combine_base.specs.declared.sequence.SequencePlace.TheVariants.{Before, Last}
 
--- a second part: its meaning after a value of the first, and from the kept state of both
+-- a second part: what it means after a value of the first, and from what is kept of both
 pub record SecondPart (P T E A B C L : Type 0) : Type 1 where
   -- how its value is joined to that of the first
   pub join : A → B → C
@@ -22,11 +22,11 @@ pub record SecondPart (P T E A B C L : Type 0) : Type 1 where
   pub lost : L → View P T → Type 0
   pub keeps : Type 0
   pub heapless : Type 0
-  -- the errors of its refusals, after a value, committed or not, and from the kept state of both
+  -- the errors of its refusals, after a value, committed to or not, and from what is kept of both
   pub refuses : A → Bool → Refusing P T E
   pub refuses_from : L → Refusing P T E
 
--- its laws, after the values that the first gives; valid and valid_last are the kept states that a call may get
+-- its laws, after the values that the first gives; valid and valid_last are the kept states that a call may be given
 pub record IsSecond {P T R E A B C S L : Type 0} (valid : S → Type 0) (m : Meaning P T R E A S) (valid_last : L → Type 0) (q : SecondPart P T E A B C L) : Type 0 where
   pub whole : GivesOnly valid m (λ a. IsReading (q.whole a))
   pub rest : (l : L) → valid_last l → IsReading (q.rest l)
@@ -104,7 +104,7 @@ module _ {P T R E A B C S L Z : Type 0} (step : P → T → P) (place : Z → Se
     sequence_refuses_at (Before s) v w k e = refusals_from m s v w k e ⊎ RefusesBehind step q.refuses (m.rest s) v w k e
     sequence_refuses_at (Last l) v w k e = q.refuses_from l v w k e
 
-    -- the first, and then the second if it is accepted
+    -- the first, and then the second where it is accepted
     abbrev pub sequence : Meaning P T R E C Z
     sequence = record {
       whole = sequel step q.join m.whole q.whole;

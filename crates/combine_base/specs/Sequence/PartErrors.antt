@@ -1,4 +1,4 @@
--- the errors of a part that runs after others
+-- the errors of a part that is run behind others
 use Rattle.std.specs.Prelude.{◌≡◌, ◌⊎◌, ℕ, List, [], ◌∷◌, Bool, true}
 use Rattle.std.proofs.Common.{inl, inr}
 use Rattle.combine_base.specs.Error.Errors.{Observers, AddsItems, Added, Unstored}
@@ -20,7 +20,7 @@ at_token_into adds adds' g [] is a = g is a
 at_token_into adds adds' g (t ∷ ts) [] a = a
 at_token_into adds adds' g (t ∷ ts) (i ∷ is) a = (a.0, g is a.1)
 
--- A part refused, with such an error of its own: committed, or peeked, and then it was put back to where it began, and explained. c is whether something was committed before it.
+-- A part refused, with such an error of its own: committed, or peeked, and then it was put back to where it began, and explained. c says whether something was committed to before it.
 pub record RefusesLast {P T R E B U : Type 0} (errors : Observers T R P E) (m : Meaning P T R E B U) (own : Refusing P T E) (c : Bool) (v w : View P T) (committed : Bool) (e : E) : Type 0 where
   pub is : ((committed ≡ true) × own v w true e) ⊎ ((committed ≡ c) × ExplainsRefusal errors m own v w e)
 
@@ -50,7 +50,7 @@ module _ {P T R E B U : Type 0} (errors : Observers T R P E) where
   )
 
 module _ {P T A E : Type 0} (step : P → T → P) (behind : A → Bool → Refusing P T E) where
-  -- the parts before the last were accepted, and the last refused after them
+  -- the parts before the last were accepted, and the last refused behind them
   pub record RefusesBehind (r : Reading P T A) (v w : View P T) (committed : Bool) (e : E) : Type 0 where
     pub value : A
     pub count : ℕ
@@ -58,6 +58,6 @@ module _ {P T A E : Type 0} (step : P → T → P) (behind : A → Bool → Refu
     pub accepted : r v (Accepted value count before)
     pub refuses : behind value before (advanced step count v) w committed e
 
--- by the outcomes of the parts before it, and by its errors after them
+-- by the outcomes of the parts before it, and by its errors behind them
 pub behind_into : {P T A E : Type 0} (step : P → T → P) (behind behind' : A → Bool → Refusing P T E) (r r' : Reading P T A) → ((v : View P T) (o : Outcome A) → r v o → r' v o) → ((a : A) (c : Bool) (v w : View P T) (k : Bool) (e : E) → behind a c v w k e → behind' a c v w k e) → (v w : View P T) (k : Bool) (e : E) → RefusesBehind step behind r v w k e → RefusesBehind step behind' r' v w k e
 behind_into step behind behind' r r' f g v w k e x = record { value = x.value; count = x.count; before = x.before; accepted = f v _ x.accepted; refuses = g x.value x.before _ w k e x.refuses }

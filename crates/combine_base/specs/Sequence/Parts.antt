@@ -1,4 +1,4 @@
--- the contracts of runs of a sequence's parts
+-- what runs of the parts of a sequence need and promise
 use Rattle.std.specs.Prelude.{◌≡◌, ◌⊎◌, Bool, true, false, refl}
 use Rattle.std.proofs.Common.{sym, subst}
 use Rattle.combine_base.specs.Stream.View.{View}
@@ -18,7 +18,7 @@ use Rattle.combine_base.specs.declared.sequence.SequenceState.{SequenceState}
 use Rattle.combine_base.specs.declared.sequence.SequencePlace.{SequencePlace}
 use Rattle.combine_base.specs.declared.sequence.SequencePlace.TheVariants.{Before, Last}
 
--- the state that a call runs from: a default one if it begins afresh, else the one that it got
+-- the state that a call runs from: a default one where it begins afresh, and else the one that it was given
 pub record RunsFrom {S : Type 0} (fresh : S → Type 0) (first : Bool) (given s : S) : Type 0 where
   pub afresh : first ≡ true → fresh s
   pub kept : first ≡ false → s ≡ given
@@ -45,7 +45,7 @@ abbrev pub refused_as : {V E : Type 0} → Bool → Tracked E → ParseResult V 
 refused_as true t = CommitErr t.error
 refused_as false t = PeekErr t
 
--- the result of a part, joined to the values before it
+-- the answer of a part, joined to those before it
 abbrev pub joined_answer : {A B E : Type 0} → Bool → (A → B) → ParseResult A E → ParseResult B E
 joined_answer c f (CommitOk a) = CommitOk (f a)
 joined_answer c f (PeekOk a) = accepted_as c (f a)
@@ -54,14 +54,14 @@ joined_answer c f (PeekErr t) = refused_as c t
 
 -- the last part and the states of the sequence
 module _ {P T R B C S L U Z E : Type 0} (w : World P T U E) (errors : Observers T R P E) (valid : U → Type 0) (fresh : Z → Type 0) (place : Z → SequencePlace S L) (m : Meaning P T R E B U) (c : Bool) (f : B → C) (kept : U → L) (left : Z) (old new : View P T) (before after : Failures) (result : ParseResult C E) where
-  -- The last part was run from a state, with c and f for what was before it: the sequence's result is its result, joined. A peeked refusal was explained.
+  -- The last part was run from a state, with c and f for what was before it: the sequence answers what it answered, joined. A peeked refusal was explained.
   pub record RunsLastPart (state : U) : Type 0 where
     pub stopped : U
     pub answer : ParseResult B E
     pub answers : Answers w m (call_from state stopped old new before after) answer
     pub explained : Explained errors m (m.refuses_from state) old new answer
     pub is : result ≡ joined_answer c f answer
-    -- need of more keeps the state in which it stopped; every other result leaves one that begins the sequence
+    -- need of more keeps the state in which it stopped; every other answer leaves one that begins the sequence
     pub leaves : (NeedsMore w.kind new.is_open answer × (place left ≡ Last (kept stopped)) × valid stopped) ⊎ ((NeedsMore w.kind new.is_open answer → ⊥) × fresh left)
 
   -- from the beginning
@@ -87,20 +87,20 @@ module _ {P T R A B C S U Z E : Type 0} (w : World P T U E) (errors : Observers 
   continues_sequence (CommitErr e) = StopsBeforeLast (CommitErr e) (place left ≡ Before kept)
   continues_sequence (PeekErr t) = StopsBeforeLast (PeekErr t) (fresh left)
 
-  -- the rest of a sequence after the parts before its last one, with their result and kept state
+  -- what a sequence does after the parts before its last one have answered so, and left the state kept
   pub record ContinuesSequence (answer : ParseResult A E) : Type 0 where
     pub is : continues_sequence answer
 
--- the parser that is the last part, by its record: the contracts of its runs, each as one fact
+-- the parser that is the last part, by its record: what its runs promise, each as one fact
 module _ {Self Input A B C S U Z Checkpoint T R P E : Type 0} (p : parser.Ghosts Self Input U B Checkpoint T R P E) (i : stream.Ghosts Input T R P E) (observers : Observers T R P E) (part_fresh : U → Type 0) (fresh : Z → Type 0) (place : Z → SequencePlace S (SequenceState A U)) (f : A → B → C) (old new : Self) (input left : Input) where
-  -- the postcondition of a run of the last part
+  -- what a run of the last part promises
   pub record CalledLast (from : SequenceState A U) (state : Z) (result : ParseResult C E) : Type 0 where
     pub lawful : p.lawful new
     pub same : MeansSame (p.meaning old) (p.meaning new)
     pub passes : Passes (i.marks input) (i.marks left) (i.failures input) (i.failures left)
     pub runs : RunsLastPart (world i.step observers i.counts_failures part_fresh) observers p.valid fresh place (p.meaning old) from.committed (f from.value) (λ s. record { value = from.value; committed = from.committed; state = s }) state (i.view input) (i.view left) (i.failures input) (i.failures left) result from.state
 
-  -- and of the rest of a sequence, after the parts before it, with their result and kept state
+  -- and the rest of a sequence, after the parts before it have answered so and left the state kept
   pub record CalledRest (kept : S) (state : Z) (result : ParseResult C E) (answer : ParseResult A E) : Type 0 where
     pub lawful : p.lawful new
     pub same : MeansSame (p.meaning old) (p.meaning new)

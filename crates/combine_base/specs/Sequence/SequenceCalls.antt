@@ -1,4 +1,4 @@
--- the contract of a call of parts and one more
+-- what a call of parts and one more promises
 use Rattle.std.specs.Prelude.{false}
 use Rattle.combine_base.specs.Error.Errors.{Observers}
 use Rattle.combine_base.specs.Parser.Answer.{Answers, world}
@@ -16,7 +16,7 @@ use Rattle.combine_base.specs.declared.sequence.tuple.longer.front.Front as fron
 use Rattle.combine_base.specs.declared.stream.StreamOnce as stream
 
 module _ {Last Input Checkpoint T R P E A B C S U Z : Type 0} (place : Z → SequencePlace S (SequenceState A U)) (f : A → B → C) where
-  -- the postcondition of a call of the whole, except that its parts stay lawful: m and m' are the meanings of the parts before the last, before and after it
+  -- what a call of the whole promises, but that its parts stay lawful: m and m' are what the parts before the last mean before and after it
   pub record FollowsParts (i : stream.Ghosts Input T R P E) (observers : Observers T R P E) (fresh before_valid : S → Type 0) (q : parser.Ghosts Last Input U B Checkpoint T R P E) (m m' : Meaning P T R E A S) (last last' : Last) (input left : Input) (from state : Z) (result : ParseResult C E) : Type 0 where
     pub valid : valid_in place before_valid q.valid state
     pub same : MeansSame (followed i.step observers place f m (q.meaning last)) (followed i.step observers place f m' (q.meaning last'))
@@ -24,14 +24,14 @@ module _ {Last Input Checkpoint T R P E A B C S U Z : Type 0} (place : Z → Seq
     pub refuses : ReasonedCall observers (followed i.step observers place f m (q.meaning last)) false from (i.view input) (i.view left) result
     pub answers : Answers (world i.step observers i.counts_failures (begins_sequence place fresh)) (followed i.step observers place f m (q.meaning last)) (call_from from state (i.view input) (i.view left) (i.failures input) (i.failures left)) result
 
--- Borrowed parts, the first of a longer tuple, and one to four after them.
+-- Parts that were lent, the front of a longer tuple, and one to four behind them.
 module _ {Q Input Checkpoint T R P E A S : Type 0} (i : stream.Ghosts Input T R P E) (observers : Observers T R P E) (q : front.Ghosts Q Input A S Checkpoint T R P E) (old new : Q) where
-  -- the postcondition of a call of them and the first
+  -- what a call of them and the first promises
   abbrev pub FollowsPartsByOne : {B C U X Z : Type 0} (at : Z → SequencePlace S (SequenceState A U)) (g : A → B → C) (r : parser.Ghosts X Input U B Checkpoint T R P E) (x x' : X) (input left : Input) (from state : Z) → ParseResult C E → Type 0
   FollowsPartsByOne at g r = FollowsParts at g i observers q.fresh q.valid r (q.meaning old) (q.meaning new)
 
   module _ {B C U X K : Type 0} (place : K → SequencePlace S (SequenceState A U)) (f : A → B → C) (e : parser.Ghosts X Input U B Checkpoint T R P E) (x x' : X) where
-    -- the states that begin these, the valid ones, and their meaning before and after
+    -- which states begin these, which are valid, and what they mean before and after
     abbrev begins_one : K → Type 0
     begins_one = begins_sequence place q.fresh
 

@@ -68,7 +68,7 @@ module _ {P T R E A U : Type 0} where
     refuses_from = λ z. h.refuses_from (only z).state;
   }
 
--- parts, and then one more: its value is joined to theirs by f
+-- parts, and then one more: its value is put to theirs by f
 module _ {P T R E A B C S U Z : Type 0} (step : P → T → P) (errors : Observers T R P E) (place : Z → SequencePlace S (SequenceState A U)) (f : A → B → C) where
   abbrev pub followed : Meaning P T R E A S → Meaning P T R E B U → Meaning P T R E C Z
   followed m n = sequence step place m (independent errors f n)

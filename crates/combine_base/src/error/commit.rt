@@ -1,20 +1,20 @@
-//! A value, marked committed or peeked.
+//! A value, and whether it is committed.
 ghost use Rattle.std.specs.Prelude.{◌≡◌};
 ghost use Rattle.combine_base.specs.Error.Results.{inner, peeked, merged, combined};
 
 use crate::error::{ParseResult, Tracked};
 
-/// A value, marked committed or peeked. Committed doesn't imply that a token was taken.
+/// A value, and whether something was committed to, a token taken or not.
 #[derive(Clone, Copy, Debug, PartialEq, Eq)]
 pub enum Commit<T> {
-    /// Committed.
+    /// Something was committed to.
     Commit(T),
-    /// Peeked: nothing was committed to.
+    /// Nothing was.
     Peek(T),
 }
 
 impl<T> Commit<T> {
-    /// Returns whether the value is peeked.
+    /// Returns whether nothing was committed to.
     pub fn is_peek(&self) -> bool
         ensures { result ≡ peeked self.now }
     {
@@ -34,7 +34,7 @@ impl<T> Commit<T> {
         }
     }
 
-    /// Applies `f` to the value, and keeps the commitment.
+    /// Changes the value, and keeps the commitment.
     pub fn map<U, F: FnOnce(T) -> U>(self, f: F) -> Commit<U>
         requires { F.pre f (inner self) }
         ensures value { F.post f (inner self) (inner result) }
@@ -56,7 +56,7 @@ impl<T> Commit<T> {
         }
     }
 
-    /// Calls `f` with the value, and returns its result, made committed if this value is.
+    /// Calls the function on the value, and returns its result, made committed if this is.
     pub fn combine_commit<U, E, F: FnOnce(T) -> ParseResult<U, E>>(self, f: F) -> ParseResult<U, E>
         requires { F.pre f (inner self) }
         ensures { (r : ParseResult U E) × F.post f (inner self) r × (result ≡ combined self r) }

@@ -1,10 +1,10 @@
-//! Results after other parts: committed if one of these was.
+//! Answers after other parts: committed if one of those was.
 ghost use Rattle.std.specs.Prelude.{◌≡◌};
 ghost use Rattle.combine_base.specs.Sequence.Parts.{accepted_as, refused_as};
 
 use crate::error::{ParseResult, Tracked};
 
-/// Returns an acceptance after other parts, committed if one of them was.
+/// Accepts after other parts, committed if one of them was.
 #[inline(always)]
 pub fn accepted_after<V, E>(committed: bool, value: V) -> ParseResult<V, E>
     ensures { result ≡ accepted_as committed value }
@@ -16,7 +16,7 @@ pub fn accepted_after<V, E>(committed: bool, value: V) -> ParseResult<V, E>
     }
 }
 
-/// Returns a peeked refusal after other parts, made committed if one of them was.
+/// Refuses after other parts with a peeked refusal, which is committed if one of them was.
 #[inline(always)]
 pub fn refused_after<V, E>(committed: bool, refusal: Tracked<E>) -> ParseResult<V, E>
     ensures { result ≡ refused_as committed refusal }

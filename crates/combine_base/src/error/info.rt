@@ -1,27 +1,27 @@
-//! The contents of an error's items.
+//! What errors speak of.
 ghost use Rattle.std.specs.Prelude.{◌≡◌, MatchResult};
 ghost use Rattle.combine_base.specs.Error.Items.{NoText, shown};
 
 use std::alloc::AllocError;
 use std::string::String;
 
-/// The contents of an error's item.
+/// What an item speaks of.
 #[derive(Debug, PartialEq, Drop)]
 pub enum Info<T, R> {
     /// A token.
     Token(T),
     /// A range of tokens.
     Range(R),
-    /// A fixed text, which allocates nothing.
+    /// A fixed text, which takes no memory.
     Static(&'static str),
-    /// An owned text.
+    /// A text of its own.
     Owned(String),
-    /// A number of missing elements. Our own.
+    /// How many elements are missing. Our own.
     More(usize),
 }
 
 impl<T: Copy, R: Copy> Info<T, R> {
-    /// Returns a copy. An owned text is cloned, which allocates.
+    /// Returns an info that speaks of the same; a text of its own is cloned, which takes memory.
     pub fn copied(&self) -> Result<Info<T, R>, AllocError>
         ensures { MatchResult result (λ i. shown i ≡ shown self.now) (λ _. NoText self.now → ⊥) }
     {

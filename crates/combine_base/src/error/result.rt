@@ -12,11 +12,11 @@ use crate::stream::StreamOnce;
 pub enum ParseResult<O, E> {
     /// Accepted, committed.
     CommitOk(O),
-    /// Accepted, peeked: nothing was taken or committed to.
+    /// Accepted, and nothing was taken or committed to.
     PeekOk(O),
-    /// A committed refusal, need of more, or a fault.
+    /// Refused and committed, or need of more, or a fault.
     CommitErr(E),
-    /// A peeked refusal: nothing was committed to, and another parser may be tried.
+    /// Refused, and nothing was committed to: another parser may be tried.
     PeekErr(Tracked<E>),
 }
 
@@ -33,16 +33,16 @@ impl<O, E> ParseResult<O, E> {
         }
     }
 
-    /// Returns whether it is a refusal, need of more or a fault.
+    /// Returns whether it is no acceptance, but a refusal, need of more or a fault.
     pub fn is_err(&self) -> bool
         ensures { IsTrue result ↔ (is_accepted_answer self.now ≡ false) }
     {
         !self.is_ok()
     }
 
-    /// Applies `f` to the value of an acceptance, and keeps its commitment.
+    /// Changes the value of an acceptance, and keeps its commitment.
     ///
-    /// An error stays as it is, and `f` is not called.
+    /// An error stays as it is, and the function is then not called.
     pub fn map<P, F: FnOnce(O) -> P>(self, f: F) -> ParseResult<P, E>
         requires { (value : O) → as_result self ≡ Ok value → F.pre f value }
         ensures { MapsValue (F.post f) self result }
@@ -55,9 +55,9 @@ impl<O, E> ParseResult<O, E> {
         }
     }
 
-    /// Applies `f` to the error, and keeps its commitment and offset.
+    /// Changes the error, and keeps its commitment and offset.
     ///
-    /// An acceptance stays as it is, and `f` is not called.
+    /// An acceptance stays as it is, and the function is then not called.
     pub fn map_err<D, F: FnOnce(E) -> D>(self, f: F) -> ParseResult<O, D>
         requires { (error : E) → as_result self ≡ Err error → F.pre f error }
         ensures { MapsError (F.post f) self result }
@@ -73,7 +73,7 @@ impl<O, E> ParseResult<O, E> {
         }
     }
 
-    /// Converts the result to std's `Result`.
+    /// Returns the same result as std's `Result`.
     pub fn into_result(self) -> Result<(O, Commit<()>), Commit<Tracked<E>>>
         ensures { result ≡ standard self }
     {
@@ -119,7 +119,7 @@ impl<O, E> From<Result<(O, Commit<()>), Commit<Tracked<E>>>> for ParseResult<O, 
     }
 }
 
-/// The result of a function that parses: a value or an error, each marked committed or peeked.
+/// The result of a function that parses: a value or an error, each with what it commits to.
 pub type StdParseResult<O, Input> = Result<
     (O, Commit<()>),
     Commit<Tracked<<Input as StreamOnce>::Error>>,

@@ -3,7 +3,7 @@ ghost use Rattle.std.specs.Prelude.{◌≡◌};
 
 /// A number of parsers, at most 255, as `parser_count` returns it.
 ///
-/// As the `offset` of an error it is carried along, and no parser decides by it. In combine a sequence finds by it which of its parts has to add its expected items.
+/// As the `offset` of an error it is carried along, and no parser decides by it. In the crate it tells a sequence which of its parts has to explain itself.
 #[derive(Clone, Copy, Debug, PartialEq, Eq)]
 pub struct ErrorOffset(pub u8);
 

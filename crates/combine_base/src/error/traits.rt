@@ -1,4 +1,4 @@
-//! The traits of error types and of their items.
+//! What a type of errors can do.
 ghost use Rattle.std.specs.Prelude.{◌≡◌, List, Bool, length};
 ghost use Rattle.combine_base.specs.Error.Items.{ErrorItem, Unexpected, Expected, Message, OfToken, Count, in_role, shown, end_of_input};
 ghost use Rattle.combine_base.specs.Error.Errors.{Observers, Only, AddsItems, MovesPosition, Cleared, ClearedAfter, Merged, IsFault, TellsApart, if_kept, later_position};
@@ -6,19 +6,19 @@ ghost use Rattle.combine_base.specs.Error.Errors.{Observers, Only, AddsItems, Mo
 use crate::error::Info;
 use crate::stream::Kind;
 
-/// One item of an error, before it is added to the error.
+/// What is to be said, before it is added to an error.
 ///
-/// A type may keep the item, or only its kind.
+/// A type may keep what it is given, or a kind alone.
 ///
 /// # Differences from combine
 ///
-/// combine's calls take anything that converts to a text. Here the contents are an `Info`, passed by value.
+/// The crate's calls take whatever a text can be made of. Here what is spoken of is an `Info`, given away.
 pub trait StreamError<T, R>: Drop {
     ghost use Rattle.combine_base.specs.declared.stream.Kind.{Kind};
 
     ghost kind: { Self → Kind };
 
-    /// The item, if items are kept.
+    /// The item, where items are kept.
     ghost items: { Self → List (ErrorItem T R) };
 
     /// Whether items are kept.
@@ -26,108 +26,108 @@ pub trait StreamError<T, R>: Drop {
 
     /// Returns the kind of the item. Our own.
     ///
-    /// It is `Refused`; for the end of input nothing is promised.
+    /// It is `Refused`, but for the end of input, of whose kind nothing is promised.
     fn kind(&self) -> Kind
         ensures { result ≡ kind self.now };
 
-    /// Makes the item of an unexpected token.
+    /// Says that this token was not expected.
     fn unexpected_token(token: T) -> Self
         ensures kind { kind result ≡ Kind.Refused }
         ensures items { items result ≡ if_kept keeps (Unexpected (OfToken token)) };
 
-    /// Makes an unexpected item.
+    /// Says that this was not expected.
     fn unexpected(info: Info<T, R>) -> Self
         ensures kind { kind result ≡ Kind.Refused }
         ensures items { items result ≡ if_kept keeps (Unexpected (shown info)) };
 
-    /// Makes an expected item.
+    /// Says that this was expected.
     fn expected(info: Info<T, R>) -> Self
         ensures kind { kind result ≡ Kind.Refused }
         ensures items { items result ≡ if_kept keeps (Expected (shown info)) };
 
-    /// Makes a message.
+    /// Says this.
     fn message(info: Info<T, R>) -> Self
         ensures kind { kind result ≡ Kind.Refused }
         ensures items { items result ≡ if_kept keeps (Message (shown info)) };
 
-    /// Makes the item of an unexpected end of input.
+    /// Says that the end of the input was not expected.
     fn end_of_input() -> Self
         ensures { items result ≡ if_kept keeps end_of_input };
 
-    /// Makes the item of that many missing elements. Our own.
+    /// Says that this many elements are missing. Our own.
     ///
-    /// It is a message of `Info::More`, which allocates nothing.
+    /// It is a message of `Info::More`, which takes no memory.
     fn expected_more(missing: usize) -> Self
         ensures kind { kind result ≡ Kind.Refused }
         ensures items { items result ≡ if_kept keeps (Message (Count missing)) };
 }
 
-/// The role of an item in an error.
+/// What an error says of something.
 #[derive(Clone, Copy, Debug, PartialEq, Eq)]
 pub enum Role {
-    /// Unexpected.
+    /// It was not expected.
     Unexpected,
-    /// Expected.
+    /// It was expected.
     Expected,
-    /// A message.
+    /// It is a message.
     Message,
 }
 
 /// An error: a kind, and perhaps a position and items.
 ///
-/// Every stream's errors are of such a type. Code that makes errors by hand requires `DetailedError`.
+/// Every stream's errors are of such a type. What makes errors by hand asks `DetailedError`.
 ///
-/// An item is added after the present ones, unless an equal one is among them; a type that keeps no items drops it. If it is out of memory, the kind becomes `Memory`, the position stays, and nothing is promised of the items. An error type that allocates nothing is never out of memory.
+/// An item is added after those that are there, unless an equal one is among them; a type that keeps no items drops it. One that finds no memory makes the kind `Memory`, and then nothing is promised of the items; the position stays. An error type that asks for no memory never comes to that.
 ///
 /// # Differences from combine
 ///
-/// A stream makes an error, by `StreamOnce::new_error`. In combine an error is made without the stream.
+/// A stream makes an error, by `StreamOnce::new_error`. In the crate an error is made without the stream.
 pub trait ParseError<T, R, P: Ord>: Drop {
-    /// The observable parts of an error.
+    /// What is seen of an error.
     ghost observers: { Observers T R P Self };
 
-    /// Returns the kind of the error: a refusal, the end, or a fault. Our own.
+    /// Returns why there is no value: a refusal, the end, or a fault. Our own.
     ///
-    /// combine distinguishes only an unexpected end.
+    /// The crate tells an unexpected end alone.
     fn kind(&self) -> Kind
         ensures { result ≡ observers.kind self.now };
 
-    /// Adds an item of that role, if items are kept. Our own.
+    /// Adds that this was not expected, that it was, or this message, if items are kept. Our own.
     ///
-    /// The contents are copied only if items are kept. If that is out of memory, the kind becomes `Memory`. combine has a call for each role.
+    /// It is copied only if items are kept. One that finds no memory makes the error one of kind `Memory`. The crate has a call for each.
     fn add_info(&mut self, role: Role, info: &Info<T, R>)
         ensures { AddsItems observers (Unit {0}) (Only (in_role role (shown info.now))) self.old self.new };
 
-    /// Drops the expected items after the first `kept` items. Our own.
+    /// Drops the items that say what was expected, from that number of items on. Our own.
     ///
-    /// The first `kept` items all stay. The others that stay keep their order, and the kind and the position stay too.
+    /// The items before that many all stay. The others stay in their order, and so do the kind and the position.
     fn clear_expected_after(&mut self, kept: usize)
         ensures { ClearedAfter observers kept self.old self.new };
 
-    /// Returns the number of items that are kept. Our own.
+    /// Returns how many items are kept. Our own.
     fn count_items(&self) -> usize
         ensures { result ≡ length (observers.items self.now) };
 
-    /// Makes the kind `Memory`, as adding an item does when out of memory. Our own.
+    /// Says that something to be added found no memory, which makes the kind `Memory`. Our own.
     ///
     /// The position stays, and nothing is promised of the items.
     fn out_of_memory(&mut self)
         ensures kind { observers.kind self.new ≡ Kind.Memory }
         ensures position { observers.position self.new ≡ observers.position self.old };
 
-    /// Merges two errors, neither of which may be a fault (`Memory`, `Read`, `Reset` or `Lost`).
+    /// Makes one error of two, neither of which may be a fault (`Memory`, `Read`, `Reset` or `Lost`).
     ///
-    /// The result has the position and the items of the error with the later position. At equal positions, and if no position is kept, the items of the second are added to the first. The kind is `Refused` if either has it, else `End`.
+    /// The position and the items are those of the one with the later position. At equal positions, and where a position is not kept, the items of the second are added to the first. The kind is `Refused` if either has it, and else `End`.
     ///
     /// # Errors
     ///
-    /// If adding an item is out of memory, the kind is `Memory`, and nothing else is promised.
+    /// An item that finds no memory makes the kind `Memory`, and then nothing else is promised.
     fn merge(self, other: Self) -> Self
         requires first { IsFault (observers.kind self) → ⊥ }
         requires second { IsFault (observers.kind other) → ⊥ }
         ensures { Merged observers (later_position P.cmp (observers.position self) (observers.position other)) self other result };
 
-    /// Adds an unexpected item, as `add_info` does.
+    /// Adds that this was not expected, as `add_info` does.
     #[inline(always)]
     final fn add_unexpected(&mut self, info: &Info<T, R>)
         ensures { AddsItems observers (Unit {0}) (Only (Unexpected (shown info.now))) self.old self.new }
@@ -135,7 +135,7 @@ pub trait ParseError<T, R, P: Ord>: Drop {
         self.add_info(Role::Unexpected, info);
     }
 
-    /// Adds an expected item, as `add_info` does.
+    /// Adds that this was expected, as `add_info` does.
     #[inline(always)]
     final fn add_expected(&mut self, info: &Info<T, R>)
         ensures { AddsItems observers (Unit {0}) (Only (Expected (shown info.now))) self.old self.new }
@@ -143,7 +143,7 @@ pub trait ParseError<T, R, P: Ord>: Drop {
         self.add_info(Role::Expected, info);
     }
 
-    /// Adds a message, as `add_info` does.
+    /// Adds this message, as `add_info` does.
     #[inline(always)]
     final fn add_message(&mut self, info: &Info<T, R>)
         ensures { AddsItems observers (Unit {0}) (Only (Message (shown info.now))) self.old self.new }
@@ -151,9 +151,9 @@ pub trait ParseError<T, R, P: Ord>: Drop {
         self.add_info(Role::Message, info);
     }
 
-    /// Drops the expected items.
+    /// Drops the items that say what was expected.
     ///
-    /// The others keep their order, and the kind and the position stay.
+    /// The others stay in their order, and so do the kind and the position.
     #[inline(always)]
     final fn clear_expected(&mut self)
         ensures { Cleared observers self.old self.new }
@@ -164,20 +164,20 @@ pub trait ParseError<T, R, P: Ord>: Drop {
     ghost tells_apart: { TellsApart observers };
 }
 
-/// An error with a position that can be read and set, and to which finished items can be added.
+/// An error whose position is known and set, and which takes items that were made before.
 ///
-/// Of the library's parsers only `and_then` and `spanned` require it. It is a trait of its own, since each bound on a stream's errors costs the prover at every parser of a composed one.
+/// Of the library's parsers only `and_then` and `spanned` ask for it. So it is a trait of its own: what a stream's errors must be is shown to the prover at each parser that is built.
 ///
 /// # Differences from combine
 ///
-/// In combine these are calls of `ParseError`.
+/// These are calls of `ParseError` in the crate.
 pub trait DetailedError<T, R, P: Ord>: ParseError<T, R, P> {
     /// The items that `add` takes.
     type StreamError: StreamError<T, R>;
 
-    /// Returns the position, if one is kept.
+    /// Returns where the error stands, if a position is kept.
     ///
-    /// In combine one always is.
+    /// In the crate it always is.
     fn position(&self) -> Option<P>
         ensures { result ≡ Self.observers.position self.now };
 
@@ -187,7 +187,7 @@ pub trait DetailedError<T, R, P: Ord>: ParseError<T, R, P> {
 
     /// Adds the item, if items are kept.
     ///
-    /// The position and the kind stay; if adding is out of memory, the kind becomes `Memory`. The item's own kind is ignored.
+    /// The position stays, and so does the kind, but where the item finds no memory: it is then `Memory`. The item's own kind counts for nothing.
     fn add(&mut self, item: Self::StreamError)
         ensures { AddsItems Self.observers (Unit {0}) (λ is. is ≡ Self.StreamError.items item) self.old self.new };
 }

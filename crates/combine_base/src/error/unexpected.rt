@@ -1,4 +1,4 @@
-//! Errors that have only a kind.
+//! Errors that are a kind alone.
 ghost use Rattle.std.specs.Prelude.{◌≡◌, [], false};
 ghost use Rattle.combine_base.specs.Error.NoItems.{no_items, no_items_apart};
 ghost use Rattle.combine_base.specs.Error.Items.{Unexpected, Expected, Message, shown, end_of_input};
@@ -8,7 +8,7 @@ use crate::error::{DetailedError, Info, ParseError, Role, StreamError};
 use crate::stream::Kind;
 use std::alloc::AllocError;
 
-/// An error that has only a kind, and allocates nothing.
+/// An error that is a kind alone, and takes no memory.
 #[derive(Clone, Copy, Debug, PartialEq, Eq)]
 pub struct UnexpectedParse(pub Kind);
 

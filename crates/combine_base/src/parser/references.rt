@@ -1,4 +1,4 @@
-//! References to parsers, as parsers.
+//! A parser behind a reference.
 
 use crate::error::{ErrorOffset, ParseResult, Tracked};
 use crate::parser::{Outputs, ParseMode, Parser};

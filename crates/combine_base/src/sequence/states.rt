@@ -3,7 +3,7 @@ ghost use Rattle.std.specs.Prelude.{◌≡◌};
 
 use super::{PartialState2, SequencePlace, TupleState};
 
-/// The kept state of a tuple of three: the variant is the running part's.
+/// The kept state of a tuple of three: the variant is that of the running part.
 #[derive(Drop)]
 pub enum PartialState3<A, B, C> {
     A(A),
@@ -11,7 +11,7 @@ pub enum PartialState3<A, B, C> {
     C(C),
 }
 
-/// The kept state of a tuple of four: the variant is the running part's.
+/// The kept state of a tuple of four: the variant is that of the running part.
 #[derive(Drop)]
 pub enum PartialState4<A, B, C, D> {
     A(A),
@@ -20,7 +20,7 @@ pub enum PartialState4<A, B, C, D> {
     D(D),
 }
 
-/// The kept state of a tuple of five: the variant is the running part's.
+/// The kept state of a tuple of five: the variant is that of the running part.
 #[derive(Drop)]
 pub enum PartialState5<A, B, C, D, E> {
     A(A),
@@ -30,7 +30,7 @@ pub enum PartialState5<A, B, C, D, E> {
     E(E),
 }
 
-/// The kept state of a tuple of six: the variant is the running part's.
+/// The kept state of a tuple of six: the variant is that of the running part.
 #[derive(Drop)]
 pub enum PartialState6<A, B, C, D, E, F> {
     A(A),
@@ -41,7 +41,7 @@ pub enum PartialState6<A, B, C, D, E, F> {
     F(F),
 }
 
-/// The kept state of a tuple of seven: the variant is the running part's.
+/// The kept state of a tuple of seven: the variant is that of the running part.
 #[derive(Drop)]
 pub enum PartialState7<A, B, C, D, E, F, G> {
     A(A),
@@ -53,7 +53,7 @@ pub enum PartialState7<A, B, C, D, E, F, G> {
     G(G),
 }
 
-/// The kept state of a tuple of eight: the variant is the running part's.
+/// The kept state of a tuple of eight: the variant is that of the running part.
 #[derive(Drop)]
 pub enum PartialState8<A, B, C, D, E, F, G, H> {
     A(A),

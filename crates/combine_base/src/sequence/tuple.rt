@@ -52,16 +52,16 @@ type State4<Input, A, B, C, D> = PartialState4<
     >,
 >;
 
-/// Returns the sum of two numbers of parsers, at most 255.
+/// Returns how many parsers two are, at most 255.
 fn add_counts(before: ErrorOffset, last: ErrorOffset) -> ErrorOffset
     ensures { result.0 ≡ min (before.0 + last.0) 255 }
 {
     ErrorOffset(before.0.saturating_add(last.0))
 }
 
-/// Runs one part, from its kept state.
+/// Runs one part, from what is kept of it.
 ///
-/// `state` is a default one; after need of more it is the kept state.
+/// `state` is a default one, and keeps what goes on where more is needed.
 #[inline(always)]
 pub fn parse_1<Input: Stream, A: Parser<Input>, M: ParseMode>(
     a: &mut A,
@@ -96,9 +96,9 @@ pub fn parse_1<Input: Stream, A: Parser<Input>, M: ParseMode>(
     }
 }
 
-/// Runs two parts, from their kept state.
+/// Runs two parts, from what is kept of them.
 ///
-/// `state` is a default one; after need of more it is the kept state.
+/// `state` is a default one, and keeps what goes on where more is needed.
 #[inline(always)]
 pub fn parse_2<Input: Stream, A: Parser<Input>, B: Parser<Input>, M: ParseMode>(
     a: &mut A,
@@ -124,9 +124,9 @@ pub fn parse_2<Input: Stream, A: Parser<Input>, B: Parser<Input>, M: ParseMode>(
     }
 }
 
-/// Runs three parts, from their kept state.
+/// Runs three parts, from what is kept of them.
 ///
-/// `state` is a default one; after need of more it is the kept state.
+/// `state` is a default one, and keeps what goes on where more is needed.
 #[inline(always)]
 fn parse_3<Input: Stream, A: Parser<Input>, B: Parser<Input>, C: Parser<Input>, M: ParseMode>(
     a: &mut A,
@@ -152,9 +152,9 @@ fn parse_3<Input: Stream, A: Parser<Input>, B: Parser<Input>, C: Parser<Input>, 
     }
 }
 
-/// Runs four parts, from their kept state.
+/// Runs four parts, from what is kept of them.
 ///
-/// `state` is a default one; after need of more it is the kept state.
+/// `state` is a default one, and keeps what goes on where more is needed.
 #[inline(always)]
 fn parse_4<
     Input: Stream,

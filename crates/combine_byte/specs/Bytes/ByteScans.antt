@@ -1,8 +1,8 @@
--- bytes tested one after another
+-- bytes looked through one after another
 use Rattle.std.specs.Prelude.{ℕ, ◌≡◌, List, ◌++◌, Bool, length, not}
 use Rattle.combine_stream.specs.Range.Ranges.{Longest}
 
--- no byte passes, except where the longest beginning ends
+-- no byte passes but where the longest beginning ends
 abbrev pub fails_all : (ℕ → Bool) → ℕ → Bool → Type 0
 fails_all passes b answer = passes b ≡ not answer
 

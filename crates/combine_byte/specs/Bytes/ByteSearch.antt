@@ -1,4 +1,4 @@
--- searches for bytes: the first place of some in the bytes of the tokens
+-- searches for bytes: the first place where some stand in the bytes of the tokens
 use Rattle.std.specs.Prelude.{ℕ, ◌+◌, ◌-◌, ◌<◌, ◌≤◌, ◌≡◌, List, [], ◌∷◌, ◌++◌, Bool, false, take, drop, length, Option, Some, None, nat_eq, refl}
 use Rattle.std.specs.Cmp.Lexicographic.{pointwise}
 use Rattle.std.proofs.Common.{arith, ap, sym, subst, ◌∙◌, length-drop}
@@ -25,11 +25,11 @@ abbrev pub these_bytes : List ℕ → Wanted (List ℕ)
 these_bytes needle = record { items = length needle; test = λ bs. pointwise nat_eq bs needle }
 
 module _ (w : Wanted (List ℕ)) where
-  -- these bytes begin with the wanted ones
+  -- what is wanted stands at the beginning of these bytes
   abbrev pub BeginsWithBytes : List ℕ → Type 0
   BeginsWithBytes = BeginsWithWanted (λ (b : ℕ). 1) (λ (r ts : List ℕ). r ≡ ts) w
 
-  -- the first such place
+  -- the first place where it does
   abbrev pub StandsFirst : List ℕ → ℕ → Type 0
   StandsFirst = IsFirstPlace (λ (b : ℕ). 1) (λ (r ts : List ℕ). r ≡ ts) w 0
 
@@ -43,7 +43,7 @@ module _ (w : Wanted (List ℕ)) where
   pub record FindsBytes (bs : List ℕ) (place : Option ℕ) : Type 0 where
     pub is : finds_bytes bs place
 
-  -- after e bytes before which they occur nowhere, whatever follows
+  -- behind e bytes before which it stands nowhere, whatever follows
   module _ (bs x : List ℕ) (e : ℕ) (l : e ≤ length bs) (h : e ≤ length bs - (w.items - 1)) (n : StandsNowhere bs) where
     behind : (j : ℕ) → e ≤ j → drop j (bs ++ x) ≡ drop (j - e) (drop e bs ++ x)
     behind j k = sym (ap (drop (j - e)) (sym (drop-append-le e bs x l)) ∙ drop-drop (j - e) e (bs ++ x) ∙ ap (λ m. drop m (bs ++ x)) {x = e + (j - e)} {y = j} (omega arith))
@@ -103,7 +103,7 @@ module _ {T : Type 0} (encoded : T → List ℕ) where
       follows : (k : ℕ) (x : List T) → drop (size_of size (take k us)) (encoded_bytes encoded us) ++ encoded_bytes encoded x ≡ encoded_bytes encoded (drop k us ++ x)
       follows k x = ap (λ bs. bs ++ encoded_bytes encoded x) (rest k) ∙ sym (bytes_append (drop k us) x)
 
-      -- these tokens need not be searched again
+      -- so many tokens need not be searched again
       pub skips : StandsNowhere w (encoded_bytes encoded us) → (k : ℕ) → size_of size (take k us) ≤ length (encoded_bytes encoded us) - (w.items - 1) → MaySkip size (in_bytes w) us k
       skips n k h = record {
         found = λ x i p. subst (λ bs. StandsFirst w bs (size_of size (take k us) + i)) (sym (bytes_append us x)) (found_behind w (encoded_bytes encoded us) (encoded_bytes encoded x) (size_of size (take k us)) (within k) h n i (subst (λ bs. StandsFirst w bs i) (sym (follows k x)) p));

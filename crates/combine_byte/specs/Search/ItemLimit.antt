@@ -1,4 +1,4 @@
--- tokens skipped up to a number of items, and the refusal of a search that finds nothing
+-- tokens passed over up to a number of items, and the refusal where a search finds nothing
 use Rattle.std.specs.Prelude.{ℕ, ◌≤◌, ◌≡◌, ◌⊎◌, Bool, true, false, length, take, Result, Ok, Err}
 use Rattle.combine_base.specs.Stream.View.{View, Takes, Moves}
 use Rattle.combine_base.specs.Parser.Drivers.{Broke}
@@ -10,7 +10,7 @@ use Rattle.combine_base.specs.declared.error.result.ParseResult.TheVariants.{Com
 use Rattle.combine_stream.specs.Range.Ranges.{size_of}
 
 module _ {P T : Type 0} (counts_failures : Type 0) (step : P → T → P) (size : T → ℕ) (old new : View P T) (before after : Failures) (most : ℕ) where
-  -- as many tokens are skipped as have at most this number of items
+  -- as many tokens are passed over as have so many items at most
   pub record UpTo : Type 0 where
     pub count : ℕ
     pub taken : Takes step count old new
@@ -32,6 +32,6 @@ module _ {V E : Type 0} (kind : E → Kind) (heapless : Type 0) (empty : Bool) w
   refuses_absent (CommitErr e) = ((kind e ≡ kinds.End) × (empty ≡ false)) ⊎ ((kind e ≡ kinds.Memory) × (heapless → ⊥))
   refuses_absent (PeekErr t) = (kind t.error ≡ kinds.End) × (empty ≡ true)
 
-  -- peeked if nothing is unread, and else committed, unless the error found no memory for the end of input
+  -- peeked where nothing is unread, and else committed, unless the error found no memory to say that the input ended
   pub record RefusesAbsent (result : ParseResult V E) : Type 0 where
     pub is : refuses_absent result

@@ -10,7 +10,7 @@ use Rattle.combine_byte.specs.declared.find.One.{One}
 use Rattle.combine_byte.specs.declared.find.Two.{Two}
 use Rattle.combine_byte.specs.declared.find.Three.{Three}
 
--- the items before the place that this finds
+-- what stands before the place that this finds
 abbrev pub searching_of : {Input S : Type 0} → S → Searching Input S
 searching_of s = record { searcher = s; reads = record {} }
 

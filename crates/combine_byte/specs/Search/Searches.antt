@@ -1,4 +1,4 @@
--- places that a search finds in a list of tokens, and the ranges before them; places and distances are counted in items
+-- places that a search finds in a list of tokens, and what is read from them; places and distances are counted in items
 use Rattle.std.specs.Prelude.{ℕ, ◌+◌, ◌-◌, ◌<◌, ◌≤◌, ◌≡◌, List, ◌++◌, Bool, true, false, take, drop, length, nat_lt, refl}
 use Rattle.std.proofs.Common.{arith, ap, sym, subst, ◌∙◌, ltb-false}
 use Rattle.std.proofs.lemmas.List.{take-append-le, drop-append-le, drop-drop}
@@ -14,17 +14,17 @@ pub record Search (T : Type 0) : Type 1 where
   pub found : List T → ℕ → Type 0
   pub missing : List T → Type 0
 
--- a found place stays found, whatever follows
+-- what is found stays found, whatever follows
 pub record IsSearch {T : Type 0} (s : Search T) : Type 0 where
   pub stays : (us x : List T) (i : ℕ) → s.found us i → s.found (us ++ x) i
 
--- there is one result
+-- there is one answer
 pub record IsOneSearch {T : Type 0} (s : Search T) : Type 0 where
   pub one : (us : List T) (i j : ℕ) → s.found us i → s.found us j → i ≡ j
   pub not_both : (us : List T) (i : ℕ) → s.found us i → s.missing us → ⊥
 
 module _ {T : Type 0} (size : T → ℕ) (s : Search T) where
-  -- whatever follows these tokens, a place found after the first k of them, or none, is the result for all
+  -- whatever follows these tokens, what is found or not behind the first k of them is so of all
   pub record MaySkip (us : List T) (k : ℕ) : Type 0 where
     pub found : (x : List T) (i : ℕ) → s.found (drop k us ++ x) i → s.found (us ++ x) (size_of size (take k us) + i)
     pub missing : (x : List T) → s.missing (drop k us ++ x) → s.missing (us ++ x)
@@ -33,23 +33,23 @@ module _ {T : Type 0} (size : T → ℕ) (s : Search T) where
   searched us (Found i) = s.found us i
   searched us (NotFound n) = s.missing us × ((k : ℕ) → k ≤ length us → size_of size (take k us) ≤ n → MaySkip us k)
 
-  -- the result of a search: a place, or none, and up to n items need not be searched again
+  -- a place is found, or none, and then up to n items need not be searched again
   pub record Searched (us : List T) (answer : TakeRange) : Type 0 where
     pub is : searched us answer
 
-  -- d items are skipped, and a place is found i items after them
+  -- d items are passed over, and a place is found i items behind them
   pub record FoundAt (d : ℕ) (us : List T) (i : ℕ) : Type 0 where
     pub from : ℕ
     pub place : IsItemPlace size us d from
     pub found : s.found (drop from us) i
 
-  -- none is found after them
+  -- none is found behind them
   pub record FindsNothing (d : ℕ) (us : List T) : Type 0 where
     pub from : ℕ
     pub place : IsItemPlace size us d from
     pub missing : s.missing (drop from us)
 
-  -- the place is after the end
+  -- the place is behind the end
   pub record Beyond (d : ℕ) (us : List T) : Type 0 where
     pub items : ℕ
     pub found : FoundAt d us items
@@ -73,7 +73,7 @@ module _ {T : Type 0} (size : T → ℕ) (s : Search T) where
     Nowhere : FindsNothing d us → WaitsForFind d us
     Far : Beyond d us → WaitsForFind d us
 
-  -- the items between two distances need not be searched again
+  -- what stands between two distances need not be searched again
   pub record SkipsBetween (d e : ℕ) (us : List T) : Type 0 where
     pub from : ℕ
     pub to : ℕ
@@ -92,9 +92,9 @@ module _ {P T R : Type 0} (size : T → ℕ) (spells : R → List T → Type 0) 
     pub kind : c ≡ nat_lt 0 k
 
   pub data UnfitSearch (d : ℕ) (v : View P T) (c : Bool) : Type 0 where
-    -- none, and the list has ended: peeked exactly if there are no tokens
+    -- none, and no more to come: peeked exactly where there are no tokens
     Absent : FindsNothing size s d v.unread → v.is_open ≡ false → c ≡ nat_lt 0 (length v.unread) → UnfitSearch d v c
-    -- too few items, and the list has ended
+    -- too few items, and no more to come
     Short : Beyond size s d v.unread → v.is_open ≡ false → c ≡ false → UnfitSearch d v c
     Inner : Torn size s d v.unread → c ≡ false → UnfitSearch d v c
     -- the kept distance ends inside a token: no call keeps such a one
@@ -215,7 +215,7 @@ module _ {P T R : Type 0} (size : T → ℕ) (spells : R → List T → Type 0) 
     pub searching_is_single : IsOneSearch s → (d : ℕ) → IsSingle (searching d)
     searching_is_single h d = record { one = one_shape h d }
 
-    -- an outcome after the second distance is one after the first
+    -- what goes on from the second goes on from the first
     module _ (d e : ℕ) (v : View P T) (z : SkipsBetween size s d e v.unread) (x : List T) (b : Bool) where
       us : List T
       us = v.unread ++ x

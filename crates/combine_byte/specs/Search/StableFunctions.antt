@@ -1,4 +1,4 @@
--- functions of ranges whose results stay: the place that they find is the place in all unread tokens
+-- functions of ranges whose answers stay: what they find is what they find in all that is unread
 use Rattle.std.specs.Prelude.{ℕ, zero, suc, ◌+◌, ◌≤◌, ◌≡◌, List, ◌++◌, Bool, take, drop, length, refl}
 use Rattle.std.proofs.Common.{ap, sym, subst, ◌∙◌}
 use Rattle.combine_base.specs.Stream.View.{View}
@@ -9,7 +9,7 @@ use Rattle.combine_byte.specs.Search.Searches.{Search, IsOneSearch, FoundAt, Fin
 use Rattle.combine_byte.specs.declared.search.TakeRange.{TakeRange}
 use Rattle.combine_byte.specs.declared.search.TakeRange.TheVariants.{Found, NotFound}
 
--- the same place, d items later; or none in both
+-- the same place, so many items later; or none in both
 abbrev pub finds_alike : ℕ → TakeRange → TakeRange → Type 0
 finds_alike d (Found i) (Found j) = j ≡ d + i
 finds_alike d (Found i) (NotFound n) = ⊥
@@ -19,7 +19,7 @@ finds_alike d (NotFound n) (NotFound m) = Unit {0}
 pub record FindsAlike (d : ℕ) (behind whole : TakeRange) : Type 0 where
   pub is : finds_alike d behind whole
 
--- the results of a function of tokens, as a search
+-- what a function of tokens answers, as a search
 abbrev pub answered_by : {T : Type 0} → (List T → TakeRange) → Search T
 answered_by f = record { found = λ us i. f us ≡ Found i; missing = λ us. (n : ℕ) × f us ≡ NotFound n }
 
@@ -40,7 +40,7 @@ still_none d n (NotFound m) (Found j) e q = absurd e
 still_none d n (NotFound k) (NotFound m) e q = (m, refl)
 
 module _ {T R : Type 0} (size : T → ℕ) (spells : R → List T → Type 0) (answers : R → TakeRange → Type 0) (f : List T → TakeRange) where
-  -- The function's results depend on the tokens of a range alone. `Found(i)` stays on longer ranges; after `NotFound(n)` a search from any boundary up to n finds the same place, whatever follows.
+  -- The function answers from the tokens of a range alone. `Found(i)` stays on longer ranges; after `NotFound(n)` a search from any boundary up to n finds the same place, whatever follows.
   pub record Stable : Type 0 where
     pub answers_by : (r : R) (us : List T) (t : TakeRange) → spells r us → answers r t → t ≡ f us
     pub stays : (us x : List T) (i : ℕ) → f us ≡ Found i → f (us ++ x) ≡ Found i
@@ -56,7 +56,7 @@ module _ {T R : Type 0} (size : T → ℕ) (spells : R → List T → Type 0) (a
         subst (λ vs. FindsAlike (size_of size (take k vs)) (f (drop k vs)) (f vs)) (sym a.all)
         (h.again a.read a.behind p.hint k (answered us (NotFound p.hint) a) (subst (λ vs. k ≤ length vs) a.all p.within) (subst (λ vs. size_of size (take k vs) ≤ p.hint) a.all p.few))
 
-    -- a place that is found after any calls in vain is the place that is found in all
+    -- a place that is found after any askings is the one that is found in all
     finds_whole : (n : ℕ) (us : List T) (i : ℕ) → finds_by_asking size spells answers n us i → f us ≡ Found i
     finds_whole zero us i p = ap f p.all ∙ h.stays p.read p.behind i (answered us (Found i) p)
     finds_whole (suc n) us i p = later (size_of size (take p.count us)) p.more (f (drop p.count us)) (f us) (passed us p.count p.went).is (finds_whole n (drop p.count us) p.more p.found) ∙ ap Found (sym p.place)
@@ -77,7 +77,7 @@ module _ {T R : Type 0} (size : T → ℕ) (spells : R → List T → Type 0) (a
       not_both = λ us i p q. let a = found_is us i p in let b = (missing_is us q).1 in cc;
     }
 
-    -- and if every list of tokens has a range with that result, the place is found
+    -- and where a range of these tokens is answered at all, it is found
     module _ (some : (us : List T) → (r : R) × spells r us × answers r (f us)) where
       pub is_found : (us : List T) (i : ℕ) → f us ≡ Found i → (asking size spells answers).found us i
       is_found us i e = let s = some us in found_now size spells answers us s.0 s.1 i (subst (answers s.0) e s.2)
@@ -85,7 +85,7 @@ module _ {T R : Type 0} (size : T → ℕ) (spells : R → List T → Type 0) (a
       pub is_missing : (us : List T) (n : ℕ) → f us ≡ NotFound n → (asking size spells answers).missing us
       is_missing us n e = let s = some us in missing_now size spells answers us s.0 s.1 n (subst (answers s.0) e s.2)
 
--- a place of one search is a place of another: so are its outcomes
+-- what is found by one search is found by another: so are its outcomes
 module _ {T : Type 0} (size : T → ℕ) (s u : Search T) (found : (us : List T) (i : ℕ) → s.found us i → u.found us i) (missing : (us : List T) → s.missing us → u.missing us) (d : ℕ) where
   found_at : (us : List T) (i : ℕ) → FoundAt size s d us i → FoundAt size u d us i
   found_at us i p = record { from = p.from; place = p.place; found = found (drop p.from us) i p.found }

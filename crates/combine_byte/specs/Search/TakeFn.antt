@@ -7,17 +7,17 @@ use Rattle.std.proofs.lemmas.List.{take-append-le, drop-append-le, append_assoc,
 use Rattle.combine_stream.specs.Range.Ranges.{size_of}
 use Rattle.combine_byte.specs.Search.Searches.{Search, IsSearch, Searched, MaySkip}
 
--- without a place, everything is searched again
+-- without a place nothing is said of what need not be searched again
 abbrev pub found_place : Option ℕ → TakeRange
 found_place (Some i) = Found i
 found_place None = NotFound 0
 
--- the function returned a value that is converted to this
+-- the function answered something that is converted to this
 abbrev pub answers_as : {R A : Type 0} → (R → A → Type 0) → (A → TakeRange → Type 0) → R → TakeRange → Type 0
 answers_as post converts r t = (a : _) × post r a × converts a t
 
 module _ {T R : Type 0} (size : T → ℕ) (spells : R → List T → Type 0) (answers : R → TakeRange → Type 0) where
-  -- the result of the function for these tokens, or for a beginning of them
+  -- what the function answers of these tokens, or answered of a beginning of them
   pub record FunctionAnswered (us : List T) (answer : TakeRange) : Type 0 where
     pub read : List T
     pub behind : List T
@@ -26,14 +26,14 @@ module _ {T R : Type 0} (size : T → ℕ) (spells : R → List T → Type 0) (a
     pub spelled : spells range read
     pub answered : answers range answer
 
-  -- it found no place, and returned a number of items that need not be searched again: the first `count` tokens are within them
+  -- it found no place, and said that so many items need not be searched again: the first `count` tokens are within them
   pub record SkipsItems (us : List T) (count : ℕ) : Type 0 where
     pub hint : ℕ
     pub answered : FunctionAnswered us (NotFound hint)
     pub within : count ≤ length us
     pub few : size_of size (take count us) ≤ hint
 
-  -- a place is found after n calls in vain, each on the rest after the items that need not be searched again
+  -- a place is found, after the function was asked n times in vain, each time behind what it said need not be searched again
   pub record SkipsAhead (rest : List T → ℕ → Type 0) (us : List T) (i : ℕ) : Type 0 where
     pub count : ℕ
     pub went : SkipsItems us count
@@ -45,7 +45,7 @@ module _ {T R : Type 0} (size : T → ℕ) (spells : R → List T → Type 0) (a
   finds_by_asking zero us i = FunctionAnswered us (Found i)
   finds_by_asking (suc n) us i = SkipsAhead (finds_by_asking n) us i
 
-  -- the function finds none in all of these tokens, after n calls
+  -- the function finds none in all of these tokens, after n times
   pub record FoundNone (us : List T) : Type 0 where
     pub hint : ℕ
     pub range : R
@@ -125,7 +125,7 @@ module _ {T R : Type 0} (size : T → ℕ) (spells : R → List T → Type 0) (a
         );
       }
 
-    -- its result for all of these tokens
+    -- what it answers of all of these tokens
     pub searched_of_all : (t : TakeRange) → answers r t → Searched size asking us t
     searched_of_all (Found i) a = record { is = found_now i a }
     searched_of_all (NotFound n) a = record { is = (missing_now n a, skips_now n a) }

@@ -1,4 +1,4 @@
-//! The number that each parser takes, as laws of functions that do nothing: a parser of another order or width would have a correct type too.
+//! Which number each parser takes, stated by functions that do nothing: parsers of another order or width would be of a right type too.
 ghost use Rattle.combine_base.specs.Parser.Meaning.{MeansSame};
 ghost use Rattle.combine_byte.specs.Numbers.{big_endian, little_endian, signed};
 ghost use Rattle.combine_byte.specs.WholeNumbers.{number_parser, takes_number, worth};
@@ -10,7 +10,7 @@ use combine_base::error::ParseError;
 use combine_base::parser::Parser;
 use combine_base::stream::Stream;
 
-/// Each unsigned parser takes its number of bytes, and its value is the number of these bytes in its order.
+/// The law of those without a sign: that many bytes, and the sum that they make.
 #[inline]
 pub fn unsigned_numbers<Input: Stream<Token = u8>>()
 where
@@ -23,7 +23,7 @@ where
     ensures le_u64 { MeansSame (⟦<LeU64<Input> as Parser<Input>>⟧.meaning number_parser) (takes_number Input.Error.observers 8 little_endian) }
 {}
 
-/// Each signed parser takes its number of bytes, and its value is their number in two's complement. That is the unsigned number, less 256 to the number of bytes if it is at least half of that.
+/// The law of those with a sign: that many bytes, and the sum that they make, less 256 to their number where it is at least half of that.
 #[inline]
 pub fn signed_numbers<Input: Stream<Token = u8>>()
 where

@@ -1,4 +1,4 @@
-//! The bytes that each parser takes, as the law of a function that does nothing: a parser of another class would have a correct type too.
+//! Which bytes each parser takes, stated by a function that does nothing: a parser of another class would be of a right type too.
 ghost use Rattle.std.specs.Prelude.{codes};
 ghost use Rattle.combine_base.specs.Parser.Meaning.{MeansSame};
 ghost use Rattle.combine_char.specs.Bytes.{is_alpha_num_byte, is_carriage_return_byte, is_digit_byte, is_hex_digit_byte, is_letter_byte, is_lower_byte, is_newline_byte, is_oct_digit_byte, is_space_byte, is_tab_byte, is_upper_byte};
@@ -15,9 +15,9 @@ use combine_base::error::ParseError;
 use combine_base::parser::Parser;
 use combine_base::stream::Stream;
 
-/// Each parser of a class takes one byte of its set, and has its text as expected in errors.
+/// The law of the classes: one byte of that set, and the text that errors say was expected.
 ///
-/// `crlf` is a carriage return and then a line feed, and `spaces` any number of `space`.
+/// `crlf` is a carriage return and then a line feed, and `spaces` as many of `space` as there are.
 #[inline]
 pub fn classes<Input: Stream<Token = u8>>()
 where

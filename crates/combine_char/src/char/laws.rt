@@ -1,4 +1,4 @@
-//! The characters that each parser takes, as the law of a function that does nothing: a parser of another class would have a correct type too.
+//! Which characters each parser takes, stated by a function that does nothing: a parser of another class would be of a right type too.
 ghost use Rattle.std.specs.Prelude.{codes};
 ghost use Rattle.combine_base.specs.Parser.Meaning.{MeansSame};
 ghost use Rattle.combine_char.specs.Characters.{is_alpha_num_char, is_carriage_return_char, is_digit_char, is_hex_digit_char, is_letter_char, is_lower_char, is_newline_char, is_oct_digit_char, is_space_char, is_tab_char, is_upper_char};
@@ -15,9 +15,9 @@ use combine_base::error::ParseError;
 use combine_base::parser::Parser;
 use combine_base::stream::Stream;
 
-/// Each parser of a class takes one character of its set, and has its text as expected in errors.
+/// The law of the classes: one character of that set, and the text that errors say was expected.
 ///
-/// `crlf` is a carriage return and then a line feed, and `spaces` any number of `space`.
+/// `crlf` is a carriage return and then a line feed, and `spaces` as many of `space` as there are.
 #[inline]
 pub fn classes<Input: Stream<Token = char>>()
 where

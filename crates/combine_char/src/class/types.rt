@@ -14,7 +14,7 @@ use combine_repeat::many::types::SkipMany;
 use combine_token::token::reading::token_if;
 use std::marker::PhantomData;
 
-/// The parser of a token of a class.
+/// The parser of a token of that class.
 ///
 /// It keeps no state.
 #[derive(Drop)]
@@ -48,7 +48,7 @@ impl<Input: Stream, C: Class<Input::Token>> Parser<Input> for ClassParser<Input,
         )
     }
 
-    /// Adds the text of the class as expected.
+    /// Adds the text of the class, as what was expected.
     #[inline]
     fn add_error(&mut self, error: &mut Tracked<Input::Error>) {
         error.error.add_expected(&Info::Static(C::text()));

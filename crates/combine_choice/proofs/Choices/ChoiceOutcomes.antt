@@ -1,4 +1,4 @@
--- the alternatives of a choice, tried in order: each result of one is a result of the choice, or the next is tried
+-- the alternatives of a choice, tried in order: each answer of one is an answer of the choice, or the next is tried
 use Rattle.std.proofs.Common.{ℕ, ◌<◌, ◌≤◌, ◌≡◌, inl, inr, List, [], Bool, true, false, length, arith, ap, sym, subst, refl, ◌∙◌}
 use Rattle.combine_base.specs.Stream.View.{View, Takes, extended, MayFollow}
 use Rattle.combine_base.specs.Stream.Advance.{extended_none, follows_none, decided_stays}
@@ -36,7 +36,7 @@ module _ {P T R E V S : Type 0} (fresh valid : S → Type 0) (m : Meaning P T R 
   begun_rest false s d v o p = p
 
 module _ {P T R V S S' E : Type 0} (w : World P T S E) (fresh : S' → Type 0) (m : Meaning P T R E V S) (q : Reading P T V) (m' : Meaning P T R E V S') where
-  -- a choice that began in state `given` tries an alternative, from where the choice began; q is the meaning of the later alternatives
+  -- a choice that began so tries an alternative so, with the stream where the choice began; q is what the later alternatives mean
   pub record Tries (first : Bool) (state : S) (now : View P T) (so_far : Failures) (began : Bool) (given : S') (old : View P T) (before : Failures) : Type 0 where
     pub same : now ≡ old
     pub gives : (x : List T) (b : Bool) (o : Outcome V) → MayFollow old.is_open x b → OrElse (begun m first state) q (extended x b old) o → begun m' began given (extended x b old) o
@@ -49,7 +49,7 @@ module _ {P T R V S S' E : Type 0} (w : World P T S E) (fresh : S' → Type 0) (
     pub lost : first ≡ false → m.lost state now → (began ≡ false) × m'.lost given old
 
   module _ (r : CallRecord P T S) (u : CallRecord P T S') (z : Tries r.first r.state r.old r.before u.first u.state u.old u.before) where
-    -- an outcome of the remaining alternatives is one of the choice
+    -- an outcome of what is left to try is one of the choice
     tried : (o : Outcome V) → OrElse (begun m r.first r.state) q u.old o → begun m' u.first u.state u.old o
     tried o p =
         let At : View P T → Type 0 = λ x. OrElse (begun m r.first r.state) q x o in
@@ -59,17 +59,17 @@ module _ {P T R V S S' E : Type 0} (w : World P T S E) (fresh : S' → Type 0) (
     here : (o : Outcome V) → IsFirm o → begun m r.first r.state r.old o → begun m' u.first u.state u.old o
     here o f p = tried o (Here (subst (λ x. begun m r.first r.state x o) z.same p) f)
 
-    -- after a peeked refusal each outcome of the later ones is one of the choice
+    -- and after a peeked refusal each outcome of the later ones
     later : (o : Outcome V) → Refuses w m r false → q u.old o → begun m' u.first u.state u.old o
     later o p i = tried o (Later (subst (λ x. begun m r.first r.state x (Refused false)) z.same p.meant) i)
 
-    -- acceptance by the later ones, after a peeked refusal that was put back
+    -- what the later ones accept, after a peeked refusal that was put back
     pub tries_falls : (v : V) → q u.old (Accepted v 0 false) → (e : Tracked E) → Answers w m r (PeekErr e) → u.new ≡ u.old → (w.counts_failures → u.after ≡ r.after) → fresh u.left → Answers (around w fresh) m' u (PeekOk v)
     tries_falls v i e p n f l =
         let y = peeked_refusal w m r (w.kind e.error) p.is in
         record { is = record { count = 0; meant = later (Accepted v 0 false) y i; taken = rw n (takes_none w.step u.old); state = l; failures = λ s. f s ∙ y.failures s ∙ z.failures s } }
 
-    -- the choice leaves the stream as the alternative did
+    -- where the choice leaves the stream as the alternative did
     module _ (n : u.new ≡ r.new) (f : u.after ≡ r.after) where
       leaves : fresh u.left → Leaves w r → Leaves (around w fresh) u
       leaves l p = record { count = p.count; taken = takes_same w.step p.count r.old u.old r.new u.new z.same n p.taken; state = l }
@@ -165,14 +165,14 @@ module _ {P T R V S S' E : Type 0} (w : World P T S E) (fresh : S' → Type 0) (
           by_kind kinds.Reset y = absurd y
           by_kind kinds.Lost y = absurd y
 
-      -- every result of the last alternative except need of more
+      -- every answer of the last alternative but need of more
       pub tries_ends : (answer : ParseResult V E) → (NeedsMore w.kind r.new.is_open answer → ⊥) → ((v : View P T) → q v (Refused false)) → fresh u.left → Answers w m r answer → Answers (around w fresh) m' u answer
       tries_ends (CommitOk v) i g l p = tries_commit_ok v l p
       tries_ends (PeekOk v) i g l p = tries_peek_ok v l p
       tries_ends (CommitErr e) i g l p = tries_fails e i p (λ y. l)
       tries_ends (PeekErr e) i g l p = tries_peeks e g p (λ y. l)
 
-      -- need of more of the last alternative
+      -- need of more of it
       pub tries_needs : (answer : ParseResult V E) → NeedsMore w.kind r.new.is_open answer → Answers w m r answer → ((v : View P T) (o : Outcome V) → m'.rest u.left v o → OrElse (m.rest r.left) q v o) → ((v : View P T) → m'.lost u.left v → m.lost r.left v) → Answers (around w fresh) m' u answer
       tries_needs (CommitOk v) i p g l = absurd i
       tries_needs (PeekOk v) i p g l = absurd i
@@ -210,7 +210,7 @@ module _ {P T R V S S' S'' E : Type 0} (w : World P T S E) (fresh : S' → Type 
         lost = λ j k. absurd (h.found s now d k);
       }
 
--- the alternative's own state is the choice's state
+-- the alternative's own state is the choice's
 module _ {P T R V S E : Type 0} (w : World P T S E) (m m' : Meaning P T R E V S) (q : Reading P T V) (g : (s : S) (v : View P T) (o : Outcome V) → m'.rest s v o → OrElse (m.rest s) q v o) (i : (s : S) (v : View P T) → m'.lost s v → m.lost s v) (r : CallRecord P T S) (u : CallRecord P T S) (z : Tries w w.fresh m q m' r.first r.state r.old r.before u.first u.state u.old u.before) (n : u.new ≡ r.new) (l : u.left ≡ r.left) (f : u.after ≡ r.after) where
   left_fresh : w.fresh r.left → w.fresh u.left
   left_fresh d = rw l d
@@ -228,7 +228,7 @@ module _ {P T R V S E : Type 0} (w : World P T S E) (m m' : Meaning P T R E V S)
         | inr y ↦ tries_fails w w.fresh m q m' r u z n f e y p (λ k. left_fresh k.state)
       ]
 
--- a result of a choice from one state is one from another
+-- an answer of a choice from one state is one from another
 module _ {P T R V S E : Type 0} (w : World P T S E) (m : Meaning P T R E V S) (r : CallRecord P T S) (u : CallRecord P T S) (z : Tries w w.fresh m refused m r.first r.state r.old r.before u.first u.state u.old u.before) (n : u.new ≡ r.new) (l : u.left ≡ r.left) (f : u.after ≡ r.after) where
   alone : (s : S) (v : View P T) (o : Outcome V) → m.rest s v o → OrElse (m.rest s) refused v o
   alone s v o i = firm_or (m.rest s) v o i

@@ -1,4 +1,4 @@
--- the errors of a choice's refusals, by the calls of its alternatives
+-- the error that a refusal of a choice has, by how a call is answered
 use Rattle.std.proofs.Common.{◌≡◌, inl, inr, Bool, true, false, subst}
 use Rattle.combine_base.specs.Stream.View.{View}
 use Rattle.combine_base.specs.Error.Errors.{Observers}
@@ -17,19 +17,19 @@ use Rattle.combine_choice.specs.Choice.FirstAlternative.{first_begins_in}
 use Rattle.combine_choice.specs.declared.or.OrState.{OrState}
 use Rattle.combine_choice.specs.declared.or.OrState.TheVariants.{Peek, A, B}
 
--- the refusals of a call, from the start or from a state
+-- what a call refuses with where it refuses
 abbrev pub begun_refusals : {P T R E V S : Type 0} → Meaning P T R E V S → Bool → S → Refusing P T E
 begun_refusals m first s = MeantRefusal (begun m first s) (begun_refuses m first s)
 
 module _ {P T R V S S' E : Type 0} (s : Observers T R P E) (joins : E → E → E → Type 0) {fresh valid : S → Type 0} {fresh' valid' : S' → Type 0} {a : Meaning P T R E V S} {b : Meaning P T R E V S'} (h : IsMeaning fresh valid a) (k : IsMeaning fresh' valid' b) where
-  -- the first began in q
+  -- where the first began so, behind it the second
   from_first : (first : Bool) (given : OrState S S') (q : S) → first_begins_in fresh first given q → (v w : View P T) (c : Bool) (e : E) → RefusesOr joins (begun a first q) (begun_refusals a first q) (refusals b) v w c e → begun_refuses (either_of joins a b) first given v w c e
   from_first true given q d v w c e p = p
   from_first false Peek q d v w c e p = or_into joins (a.rest q) a.whole (refusals_from a q) (refusals a) (refusals b) (refusals b) (λ v o. (h.start q v o d).0) (λ v w c e. (refusals_begin h q d v w c e).0) (λ v w c e x. x) v w c e p
   from_first false (A t) q d v w c e p = subst (λ z. RefusesOr joins (a.rest z) (refusals_from a z) (refusals b) v w c e) d p
   from_first false (B t) q d v w c e p = absurd d
 
-  -- the second, from a default state
+  -- the second from a default state
   afresh : (first : Bool) (l : S') → fresh' l → (v w : View P T) (c : Bool) (e : E) → begun_refusals b first l v w c e → refusals b v w c e
   afresh true l d v w c e p = p
   afresh false l d v w c e p = (refusals_begin k l d v w c e).0 p
@@ -38,7 +38,7 @@ module _ {P T R V S S' E : Type 0} (s : Observers T R P E) (joins : E → E → 
     abbrev here : Bool → E → Type 0
     here = begun_refuses (either_of joins a b) first given old new
 
-    -- the first alternative's committed error is the choice's
+    -- a committed error of the first's is the choice's
     pub first_reasons : (e : E) → Reasoned {V = V} s.kind new.is_open (begun_refusals a first q old new) (CommitErr e) → Reasoned {V = V} s.kind new.is_open here (CommitErr e)
     first_reasons e r = reasons_hand_on s.kind new.is_open (begun_refusals a first q old new) here e (λ x p. from_first first given q d old new true x (record { is = inl p })) r
 
@@ -65,7 +65,7 @@ module _ {P T R V S S' E : Type 0} (s : Observers T R P E) (joins : E → E → 
       second_reasons (CommitErr e) result p g = rw g.is (reasons_hand_on s.kind new.is_open (begun_refusals b first l old new) here e second_commits p)
       second_reasons (PeekErr u) result p g = merging u result (reason_peeked s.kind new.is_open (begun_refusals b first l old new) u p) g.is
 
-  -- from a state of the second, the errors are the second's alone
+  -- from a state of the second's it is the second's alone
   pub from_second : (first : Bool) (given : OrState S S') (kept : S') → first ≡ false → given ≡ B kept → (v w : View P T) (result : ParseResult V E) → Reasoned s.kind w.is_open (begun_refuses b first kept v w) result → Reasoned s.kind w.is_open (begun_refuses (either_of joins a b) first given v w) result
   from_second true given kept i d v w result r = absurd (cc)
   from_second false given kept i d v w result r = rw d r

@@ -33,7 +33,7 @@ first_begun_valid fresh valid d false Peek s b h = d s b
 first_begun_valid fresh valid d false (A t) s b h = rw b h
 first_begun_valid fresh valid d false (B t) s b h = absurd b
 
--- the stream couldn't be put back after a peeked refusal
+-- what could not be put back after a peeked refusal
 pub unreset_here : {P T R V S S' E : Type 0} (w : World P T S E) (fresh : S' → Type 0) (valid : S → Type 0) (a : Meaning P T R E V S) (first : Bool) (given left : OrState S S') (r : CallRecord P T S) (new : View P T) (after : Failures) (t : Tracked E) → Answers w a r (PeekErr t) → (k : Kind) → (k ≡ kinds.Reset) × Moves w.step r.new new × (r.after.resets < after.resets) → r.before.resets ≤ r.after.resets → left ≡ Peek → (e : E) → w.kind e ≡ k → FirstUnreset w fresh valid a first given left r.old new r.before after e
 unreset_here w fresh valid a first given left r new after t p k h x l e q =
     let y = (peeked_refusal w a r (w.kind t.error) p.is).leaves in
@@ -66,7 +66,7 @@ module _ {P T R V S S' E : Type 0} (w : World P T S E) (later : S' → Type 0) (
         let n = g.is in
         rw n.refused_so (record { is = record { fresh = n.is_fresh; view = mid; failures = middle; ran = record { state = s; stopped = stopped; begun = b; reads = h; answers = p; refuses = r }; back = n.back old back; counts_failures = n.failures; empty = n.empty } })
 
-    -- the result of the first part, by what the choice does with its result
+    -- what comes of the first, by what is done with its answer
     pub first_did_so : (answer : ParseResult V E) (turn : FirstResult V S' E) → Answers w a run answer → Said answer → Leads answer turn → Here turn
     first_did_so (CommitOk v) turn p r g = let n = g.is in ends (CommitOk v) turn n.0 n.1 p r tt (λ q. absurd q) (λ q. n.2)
     first_did_so (PeekOk v) turn p r g = let n = g.is in ends (PeekOk v) turn n.0 n.1 p r tt (λ q. absurd q) (λ q. n.2)

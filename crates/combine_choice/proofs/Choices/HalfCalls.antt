@@ -1,4 +1,4 @@
--- a choice of the first and of later ones, by the result of the first
+-- a choice of the first and of later ones, of what came of the first
 use Rattle.std.proofs.Common.{◌≡◌, Bool, false, refl, subst}
 use Rattle.std.specs.Prelude.{Option, Some, None}
 use Rattle.combine_base.specs.Stream.View.{View}
@@ -29,7 +29,7 @@ use Rattle.combine_choice.proofs.Choices.FirstAlternative as first_turn
 use Rattle.combine_choice.proofs.Choices.LaterAlternatives.{ended_answers, ended_valid, first_no_fault, gone_answers, gone_valid, second_kept_valid}
 
 module _ {P T R V S S' E : Type 0} (step : P → T → P) (errors : Observers T R P E) (counts_failures : Type 0) (joins : E → E → E → Type 0) {fresh valid : S → Type 0} {fresh' valid' : S' → Type 0} {a : Meaning P T R E V S} {b : Meaning P T R E V S'} (h : IsMeaning fresh valid a) (k : IsMeaning fresh' valid' b) (first : Bool) (given none : OrState S S') (old now : View P T) (before so_far : Failures) where
-  -- the error of the choice, by the result of the first
+  -- the error of the choice, by what came of the first
   final_says : (answer : ParseResult V E) (ran : RanFirst (world step errors counts_failures fresh) fresh' valid a first given none old now before so_far now so_far answer) → IsFinal (world step errors counts_failures fresh) fresh' valid a first given none old now before so_far answer → Reasoned errors.kind now.is_open (begun_refuses (either_of joins a b) first given old now) answer
   final_says (CommitOk v) ran f = reasons_ok errors.kind now.is_open (begun_refuses (either_of joins a b) first given old now) v
   final_says (PeekOk v) ran f = reasons_peek_ok errors.kind now.is_open (begun_refuses (either_of joins a b) first given old now) v
@@ -76,7 +76,7 @@ module _ {P T R V S S' E : Type 0} (step : P → T → P) (errors : Observers T 
         refuses = gone_says kept refused t.turned.is new after f.stopped left f.answer result f.called.answers f.called.refuses f.settled;
       }
 
--- a peeked refusal of the later part is no fault
+-- what the later part peeks is no fault
 pub may_settle : {P T R V S E C : Type 0} (w : World P T S E) {law : Type 0} {accepts : S → Type 0} {m m' : Meaning P T R E V S} {x y : C → View P T → Type 0} (r : CallRecord P T S) (refused : Option (Tracked E)) → NoFault w.kind refused → (answer : ParseResult V E) → Chose w law accepts m m' x y r answer → MayFollowRefusal w.kind refused answer
 may_settle {P} {T} {R} {V} {S} {E} w {law} {accepts} {m} r refused n answer c = record { first = n; later = by_answer answer c.answers }
   where
@@ -86,7 +86,7 @@ may_settle {P} {T} {R} {V} {S} {E} w {law} {accepts} {m} r refused n answer c = 
     by_answer (CommitErr e) p = tt
     by_answer (PeekErr t) p = no_fault w m r t p
 
--- the result of the first part, from its call and from what is done with its result
+-- what comes of the first, by a call of it and what is done with its answer
 pub tried : {P T R V S S' E C : Type 0} (step : P → T → P) (errors : Observers T R P E) (counts_failures : Type 0) {fresh valid : S → Type 0} (later : S' → Type 0) {a a' : Meaning P T R E V S} {law : Type 0} {x y z : C → View P T → Type 0} (first : Bool) (given left : OrState S S') (s stopped : S) (old mid new : View P T) (before middle after : Failures) (stands : View P T → Type 0) → first_begins_in fresh first given s → valid s → (answer : ParseResult V E) → Chose (world step errors counts_failures fresh) law valid a a' x y (record { first = first; state = s; left = stopped; old = old; new = mid; before = before; after = middle }) answer → stands old → Passes y z middle after → (turn : FirstResult V S' E) → JudgesFirst step errors.kind counts_failures later stands stopped left mid new middle after answer turn → Tried (world step errors counts_failures fresh) later valid law a a' x z first given left old new before after turn
 tried step errors counts_failures {fresh} {valid} later {a} {a'} {law} {x} {y} {z} first given left s stopped old mid new before middle after stands b h answer call back p turn g = record {
   lawful = call.lawful;
@@ -95,7 +95,7 @@ tried step errors counts_failures {fresh} {valid} later {a} {a'} {law} {x} {y} {
   turned = first_turn.first_did_so (world step errors counts_failures fresh) later valid a first given s stopped old mid before middle b h call.valid stands back call.passes.resets left new after answer turn call.answers call.refuses g;
 }
 
--- the call resumes while a later part is running: the first isn't run
+-- it was running already when another one was
 pub resumed : {P T R V S S' E C : Type 0} (w : World P T S E) (later : S' → Type 0) (valid : S → Type 0) {law : Type 0} (a : Meaning P T R E V S) (x : C → View P T → Type 0) (given left : OrState S S') (kept : S') (old : View P T) (before : Failures) → law → (first : Bool) → first ≡ false → given ≡ B kept → left ≡ Peek → Tried {V = V} w later valid law a a x x first given left old old before before (RunsLater kept None)
 resumed w later valid a x given left kept old before l first e i n = record {
   lawful = l;

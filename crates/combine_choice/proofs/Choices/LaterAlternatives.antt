@@ -1,4 +1,4 @@
--- the first alternative ends the choice, or the result of the later ones is the choice's result
+-- the first alternative ends the choice, or what the later ones answer is its answer
 use Rattle.std.proofs.Common.{◌≡◌, inl, inr, Bool, true, false, arith, subst, refl, ◌∙◌}
 use Rattle.std.specs.Prelude.{Option, Some, None}
 use Rattle.combine_base.specs.Stream.View.{View, extended}
@@ -22,7 +22,7 @@ use Rattle.combine_choice.specs.Choice.FirstAlternative.{FirstEnded, FirstAnswer
 use Rattle.combine_choice.specs.declared.or.first.FirstResult.TheVariants.{RunsLater}
 use Rattle.combine_choice.proofs.Choices.FirstAlternative.{asks_or_not}
 
--- the first alternative's state is valid where the choice's is
+-- the state of the first is valid where the choice's is
 pub first_is_valid : {S S' : Type 0} (valid : S → Type 0) (valid' : S' → Type 0) (given : OrState S S') → or_valid valid valid' given → first_valid valid given
 first_is_valid valid valid' Peek h = tt
 first_is_valid valid valid' (A s) h = h

@@ -1,4 +1,4 @@
--- a choice whose alternatives were refused peeked one after another, with their errors joined
+-- a choice whose alternatives were refused peeked one after the other, with their errors joined
 use Rattle.std.proofs.Common.{◌≡◌, ◌⊎◌, inl, inr}
 use Rattle.std.specs.declared.cmp.Ordering.{Ordering}
 use Rattle.combine_base.specs.Error.Errors.{Observers, IsFault, joined_kind}
@@ -25,7 +25,7 @@ module _ {P T R V S E : Type 0} (w : World P T S E) (m : Meaning P T R E V S) (r
   pub no_fault : (t : Tracked E) → Answers w m r (PeekErr t) → IsFault (w.kind t.error) → ⊥
   no_fault t p = peeks_no_fault (w.kind t.error) p.is
 
--- an error joined from two has the kind joined from theirs, or that of the second
+-- what is joined of two errors has the kind that is joined of theirs, or that of the second
 abbrev pub JoinsKinds : {T R P E : Type 0} → Observers T R P E → (E → E → E → Type 0) → Type 0
 JoinsKinds {E = E} s joins = (a b e : E) → joins a b e → (s.kind e ≡ joined_kind (s.kind a) (s.kind b)) ⊎ (s.kind e ≡ s.kind b)
 

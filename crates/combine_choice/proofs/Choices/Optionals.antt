@@ -1,4 +1,4 @@
--- the results of `optional`, from those of its parser
+-- the answers of an optional parser, from those of its parser
 use Rattle.std.proofs.Common.{Option, ◌≡◌, Bool, true, false, Some, None, refl, arith}
 use Rattle.combine_base.specs.Stream.View.{View}
 use Rattle.combine_base.specs.Parser.ValueMap.{mapped}
@@ -15,7 +15,7 @@ use Rattle.combine_base.specs.declared.error.result.ParseResult.TheVariants.{Com
 use Rattle.combine_choice.specs.Choice.Optional.{otherwise, optional, is_some, nothing_taken}
 use Rattle.combine_choice.proofs.Choices.ChoiceOutcomes.{Tries, own_commit_ok, own_peek_ok, own_error, tries_falls}
 
--- a parser, or else a reading: the choice tries the parser from its own state
+-- a parser, or else what a reading says: it tries the parser from its own state
 otherwise_tries : {P T R V S E : Type 0} (w : World P T S E) (m : Meaning P T R E V S) (q : Reading P T V) (first : Bool) (s : S) (v : View P T) (f : Failures) → Tries w w.fresh m q (otherwise m q) first s v f first s v f
 otherwise_tries w m q true s v f = record { same = refl; gives = λ x b o j i. i; failures = λ s. refl; reads = omega arith; resets = omega arith; keeps = λ k. k; puts_back = λ k. k; heapless = λ k. k; lost = λ i j. absurd (cc) }
 otherwise_tries w m q false s v f = record { same = refl; gives = λ x b o j i. i; failures = λ s. refl; reads = omega arith; resets = omega arith; keeps = λ k. k; puts_back = λ k. k; heapless = λ k. k; lost = λ i j. (refl, j) }
@@ -39,7 +39,7 @@ module _ {P T R A S E : Type 0} (w : World P T S E) (m : Meaning P T R E A S) (r
       let fresh = (peeked_refusal w m r (w.kind e.error) p.is).leaves.state in
       tries_falls w w.fresh (mapped m is_some) nothing_taken (optional m) r (record r { new = now; after = later }) tries None refl e (mapped_peek_err w m is_some r e p) n f fresh
 
--- a committed error of the parser is `optional`'s
+-- a committed error of its parser's is its own
 pub optional_reasons : {P T R A S E : Type 0} (kind : E → Kind) (is_open : Bool) (m : Meaning P T R E A S) (first : Bool) (s : S) (v w : View P T) (e : E) → Reasoned {V = A} kind is_open (begun_refuses m first s v w) (CommitErr e) → Reasoned {V = Option A} kind is_open (begun_refuses (optional m) first s v w) (CommitErr e)
 optional_reasons kind is_open m true s v w e r = reasons_hand_on kind is_open (m.refuses v w) (begun_refuses (optional m) true s v w) e (λ x p. p) r
 optional_reasons kind is_open m false s v w e r = reasons_hand_on kind is_open (m.refuses_from s v w) (begun_refuses (optional m) false s v w) e (λ x p. p) r

@@ -1,4 +1,4 @@
--- the joint results and errors of a choice's alternatives
+-- what the alternatives of a choice answer and say together
 use Rattle.std.specs.Prelude.{◌≡◌}
 use Rattle.std.specs.declared.cmp.Ordering.{Ordering}
 use Rattle.combine_base.specs.Error.Errors.{Observers, IsFault, JoinedErrors, later_position}
@@ -20,7 +20,7 @@ abbrev pub both_merged : {T R P E : Type 0} → Observers T R P E → (P → P �
 both_merged s cmp first second e = JoinedErrors s (later_position cmp (s.position first) (s.position second)) first second e
 
 module _ {T R P V E : Type 0} (s : Observers T R P E) (joins : E → E → E → Type 0) (first : E) where
-  -- the first alternative's error and a later one's, as one peeked refusal, unless there was no memory for an item
+  -- the first alternative's error and a later one's, as one peeked refusal, unless an item found no memory
   abbrev pub refuses_both : E → ParseResult V E → Type 0
   refuses_both second (CommitOk v) = ⊥
   refuses_both second (PeekOk v) = ⊥
@@ -33,6 +33,6 @@ module _ {T R P V E : Type 0} (s : Observers T R P E) (joins : E → E → E →
   after_refusal (CommitErr e) result = result ≡ CommitErr e
   after_refusal (PeekErr t) result = refuses_both t.error result
 
-  -- the result of the later alternatives; if they are refused peeked too, their error joined with the first one's
+  -- the answer of the later alternatives; where they are refused peeked too, their error and the first one's are joined
   pub record AfterRefusal (answer result : ParseResult V E) : Type 0 where
     pub is : after_refusal answer result

@@ -1,4 +1,4 @@
--- contracts of a choice's call, as one fact that names no parser, and of calls of its halves, by the stream before and after them
+-- what a call of a choice promises, in one fact that names no parser; and of its halves, by the stream before and after them
 use Rattle.combine_base.specs.Stream.View.{View}
 use Rattle.combine_base.specs.Parser.Meaning.{Meaning, MeansSame, begun_refuses}
 use Rattle.combine_base.specs.Parser.Answer.{CallRecord, World, Answers, world}
@@ -22,14 +22,14 @@ pub record Chose {P T R V S E C : Type 0} (w : World P T S E) (law : Type 0) (ac
   pub answers : Answers w m r result
   pub refuses : Reasoned w.kind r.new.is_open (begun_refuses m r.first r.state r.old r.new) result
 
--- the result of the first part, run by a call: `FirstDid`, and the other promises of the call
+-- what came of the first, run by a call: that of `FirstDid`, and what the call promises besides
 pub record Tried {P T R V S S' E C : Type 0} (w : World P T S E) (later : S' → Type 0) (valid : S → Type 0) (law : Type 0) (a a' : Meaning P T R E V S) (x y : C → View P T → Type 0) (first : Bool) (given left : OrState S S') (old new : View P T) (before after : Failures) (result : FirstResult V S' E) : Type 0 where
   pub lawful : law
   pub same : MeansSame a a'
   pub passes : Passes x y before after
   pub turned : FirstDid w later valid a first given left old new before after result
 
--- the contract of a call of the later part after that refusal of the first: its result, and the choice's
+-- what a call of the later part promises, after that refusal of the first: how it answers, and what is made of it
 pub record Followed {P T R V S S' E C : Type 0} (step : P → T → P) (errors : Observers T R P E) (counts_failures : Type 0) (joins : E → E → E → Type 0) (fresh : S' → Type 0) (law : Type 0) (accepts : S' → Type 0) (b b' : Meaning P T R E V S') (y z : C → View P T → Type 0) (first : Bool) (kept : S') (none left : OrState S S') (refused : Option (Tracked E)) (old new : View P T) (before after : Failures) (result : ParseResult V E) : Type 0 where
   pub answer : ParseResult V E
   pub stopped : S'

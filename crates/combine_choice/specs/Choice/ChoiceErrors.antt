@@ -1,4 +1,4 @@
--- the errors of a choice's refusals
+-- what the errors of a choice's refusals are
 use Rattle.std.specs.Prelude.{◌⊎◌, Bool, true, false}
 use Rattle.std.proofs.Common.{inl, inr}
 use Rattle.combine_base.specs.Stream.View.{View}
@@ -7,7 +7,7 @@ use Rattle.combine_base.specs.Parser.Outcome.{Outcome, Refused}
 use Rattle.combine_choice.specs.Choice.Choices.{ReadingsAgree}
 
 module _ {P T E : Type 0} (joins : E → E → E → Type 0) where
-  -- both were refused peeked, the second from where the first had begun, with their errors joined
+  -- both were refused peeked, the second from where the first had begun, and their errors are joined so
   pub record RefusesBoth (first second : Refusing P T E) (v w : View P T) (e : E) : Type 0 where
     pub own : E
     pub other : E
@@ -17,12 +17,12 @@ module _ {P T E : Type 0} (joins : E → E → E → Type 0) where
     pub joined : joins own other e
 
   module _ {V : Type 0} (r : Reading P T V) (first second : Refusing P T E) (v w : View P T) where
-    -- a committed refusal is the first's, or the second's where the first has a peeked refusal on this view
+    -- a committed refusal is the first's; or the second's, where the first has a peeked refusal on this view
     abbrev pub either_refuses : Bool → E → Type 0
     either_refuses true e = first v w true e ⊎ (r v (Refused false) × second v w true e)
     either_refuses false e = RefusesBoth first second v w e
 
-    -- the error of a choice of two, by the first's reading and the errors of both
+    -- the error of a choice of two, by what the first means and by the errors of the two
     pub record RefusesOr (committed : Bool) (e : E) : Type 0 where
       pub is : either_refuses committed e
 

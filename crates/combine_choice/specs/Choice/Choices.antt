@@ -29,7 +29,7 @@ module _ {P T V : Type 0} where
   agree_more : (r q t : Reading P T V) → ReadingsAgree r q → ReadingsAgree q t → ReadingsAgree r t
   agree_more r q t i j v o = (λ p. (j v o).0 ((i v o).0 p), λ p. (i v o).1 ((j v o).1 p))
 
-  -- one alternative, and the reading of the later ones
+  -- one alternative, and what the later ones mean
   pub data OrElse (r q : Reading P T V) (v : View P T) (o : Outcome V) : Type 0 where
     Here : (meant : r v o) (firm : IsFirm o) → OrElse r q v o
     Later : (refused : r v (Refused false)) (meant : q v o) → OrElse r q v o
@@ -86,7 +86,7 @@ module _ {P T V : Type 0} where
   pub either_both : (r r' q q' : Reading P T V) → ReadingsAgree r r' → ReadingsAgree q q' → ReadingsAgree (OrElse r q) (OrElse r' q')
   either_both r r' q q' i j v o = (either_into r r' q q' (λ v o. (i v o).0) (λ v o. (j v o).0) v o, either_into r' r q' q (λ v o. (i v o).1) (λ v o. (j v o).1) v o)
 
-  -- the last alternative has its own meaning
+  -- the last alternative means what it means alone
   pub firm_or : (r : Reading P T V) (v : View P T) (o : Outcome V) → r v o → OrElse r refused v o
   firm_or r v (Accepted a n k) p = Here p tt
   firm_or r v (Refused true) p = Here p refl

@@ -1,4 +1,4 @@
--- the results of the first alternative of a choice, and of those after it
+-- what comes of the first alternative of a choice, and of those after it
 use Rattle.std.specs.Prelude.{ℕ, ◌<◌, ◌≡◌, Bool, true, false, Option, Some, None, Result, Ok, Err}
 use Rattle.combine_base.specs.Stream.View.{View, Moves, Takes}
 use Rattle.combine_base.specs.Parser.Reasons.{Reasoned}
@@ -18,7 +18,7 @@ use Rattle.combine_choice.specs.declared.or.OrState.TheVariants.{Peek, A, B}
 use Rattle.combine_choice.specs.declared.or.first.FirstResult.{FirstResult}
 use Rattle.combine_choice.specs.declared.or.first.FirstResult.TheVariants.{Done, RunsLater}
 
--- the first alternative's state is valid
+-- the first alternative's state is one that it may be given
 abbrev pub first_valid : {S S' : Type 0} → (S → Type 0) → OrState S S' → Type 0
 first_valid valid Peek = Unit {0}
 first_valid valid (A s) = valid s
@@ -39,12 +39,12 @@ module _ {S S' : Type 0} (fresh : S → Type 0) where
   runs_alternative first given (Ok s) = first_begins_in first given s
   runs_alternative first given (Err t) = (first ≡ false) × (given ≡ B t)
 
-  -- which alternative runs, and from which state
+  -- which alternative runs on, and from which state
   pub record RunsAlternative (first : Bool) (given : OrState S S') (result : Result S S') : Type 0 where
     pub is : runs_alternative first given result
 
 module _ {P T R V S S' E : Type 0} (w : World P T S E) (later : S' → Type 0) (valid : S → Type 0) (a : Meaning P T R E V S) (first : Bool) (given left : OrState S S') (old new : View P T) (before after : Failures) where
-  -- the first was run, with this result
+  -- the first was run, and left this
   pub record RanFirst (view : View P T) (failures : Failures) (answer : ParseResult V E) : Type 0 where
     pub state : S
     pub stopped : S
@@ -53,13 +53,13 @@ module _ {P T R V S S' E : Type 0} (w : World P T S E) (later : S' → Type 0) (
     pub answers : Answers w a (record { first = first; state = state; left = stopped; old = old; new = view; before = before; after = failures }) answer
     pub refuses : Reasoned w.kind view.is_open (begun_refuses a first state old view) answer
 
-  -- on need of more its state is kept, otherwise none
+  -- on need of more its state is kept, and else none is
   pub record KeepsFirst (stopped : S) (answer : ParseResult V E) : Type 0 where
     pub holds : valid stopped
     pub asks : NeedsMore w.kind new.is_open answer → left ≡ A stopped
     pub ends : (NeedsMore w.kind new.is_open answer → ⊥) → left ≡ Peek
 
-  -- the stream couldn't be put back
+  -- the stream could not be put back
   pub record FirstUnreset (e : E) : Type 0 where
     pub kind : w.kind e ≡ kinds.Reset
     pub count : ℕ
@@ -103,7 +103,7 @@ module _ {P T R V S S' E : Type 0} (w : World P T S E) (later : S' → Type 0) (
   pub record FirstDid (result : FirstResult V S' E) : Type 0 where
     pub is : first_did result
 
--- the stream is unchanged
+-- the stream stays as it is
 pub record StreamStays {P T : Type 0} (old new : View P T) (before after : Failures) : Type 0 where
   pub same : new ≡ old
   pub failures : after ≡ before
@@ -116,7 +116,7 @@ pub record FirstPutBack {P T S S' E : Type 0} (counts_failures : Type 0) (later 
   pub failures : counts_failures → after ≡ before
   pub empty : left ≡ Peek
 
--- the stream couldn't be put back
+-- it could not be put back
 pub record FirstNotPutBack {P T V S S' E : Type 0} (step : P → T → P) (kind : E → Kind) (left : OrState S S') (old new : View P T) (before after : Failures) (answer : ParseResult V E) : Type 0 where
   pub error : E
   pub is : answer ≡ CommitErr error
@@ -125,7 +125,7 @@ pub record FirstNotPutBack {P T V S S' E : Type 0} (step : P → T → P) (kind 
   pub more : before.resets < after.resets
   pub empty : left ≡ Peek
 
--- the choice's step on the first one's result, by the state and the stream that it left
+-- what is done with the first one's answer, which left its state so, and the stream
 module _ {P T V S S' E : Type 0} (step : P → T → P) (kind : E → Kind) (counts_failures : Type 0) (later : S' → Type 0) (stands : View P T → Type 0) (kept : S) (left : OrState S S') (old new : View P T) (before after : Failures) where
   abbrev pub judges_first : ParseResult V E → FirstResult V S' E → Type 0
   judges_first (CommitOk v) turn = (turn ≡ Done (CommitOk v)) × StreamStays old new before after × (left ≡ Peek)
@@ -151,7 +151,7 @@ module _ {T R P V E : Type 0} (errors : Observers T R P E) (joins : E → E → 
   joined_with_first None answer result = result ≡ answer
   joined_with_first (Some t) answer result = AfterRefusal errors joins t.error answer result
 
-  -- the result of the later ones, after that refusal of the first
+  -- what the later ones answered, after that refusal of the first
   pub record SettlesLater {S S' : Type 0} (is_open : Bool) (refused : Option (Tracked E)) (kept : S') (before left : OrState S S') (answer result : ParseResult V E) : Type 0 where
     pub is : joined_with_first refused answer result
     pub asks : NeedsMore errors.kind is_open answer → left ≡ B kept

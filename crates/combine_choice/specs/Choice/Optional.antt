@@ -1,4 +1,4 @@
--- a parser, or else a reading that refuses nothing
+-- a parser, or else what a reading says, which refuses nothing
 use Rattle.std.specs.Prelude.{◌≡◌, false, Option, Some, None}
 use Rattle.std.proofs.Common.{arith}
 use Rattle.combine_base.specs.Parser.Outcome.{Accepted}

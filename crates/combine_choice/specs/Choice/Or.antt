@@ -1,4 +1,4 @@
--- a choice of two parsers, whose state is the running alternative with its state
+-- a choice of two parsers, whose state is the running alternative and its state
 use Rattle.std.specs.Prelude.{◌≡◌, List, ◌↔◌}
 use Rattle.combine_base.specs.Stream.View.{View}
 use Rattle.combine_base.specs.Error.Items.{ErrorItem}
@@ -34,13 +34,13 @@ module _ {P T R E V S S' : Type 0} where
   or_lost a b (B t) v = b.lost t v
 
 module _ {P T R E V S S' : Type 0} (joins : E → E → E → Type 0) where
-  -- the errors from a kept state: those of each alternative where its meaning is refused; a second that this call starts begins from a default state
+  -- the errors from a kept state: each alternative's where it is meant to be refused so; a second that the call comes to begins afresh
   abbrev pub or_refuses_from : Meaning P T R E V S → Meaning P T R E V S' → OrState S S' → Refusing P T E
   or_refuses_from a b Peek = RefusesOr joins a.whole (refusals a) (refusals b)
   or_refuses_from a b (A s) = RefusesOr joins (a.rest s) (refusals_from a s) (refusals b)
   or_refuses_from a b (B t) = b.refuses_from t
 
-  -- the first that isn't refused peeked; if both are, their errors are joined; from a kept state the running alternative goes on
+  -- the first that isn't refused peeked; if both are, their errors are joined so; from a kept state the running alternative goes on
   abbrev pub either_of : Meaning P T R E V S → Meaning P T R E V S' → Meaning P T R E V (OrState S S')
   either_of a b = record {
     whole = or_whole a b;
@@ -115,7 +115,7 @@ module _ {P T R E V S S' : Type 0} (joins : E → E → E → Type 0) where
       refuses_from = reasons_same;
     }
 
--- two parsers have the same outcomes from the start, leave tokens unread and allocate alike, and add the same items to an error; their states may differ
+-- two parsers have the same outcomes from the start, leave tokens unread and ask for memory alike, and add the same to an error; their states may differ
 pub record StartsSame {P T R E V S S' : Type 0} (m : Meaning P T R E V S) (m' : Meaning P T R E V S') : Type 0 where
   pub whole : ReadingsAgree m.whole m'.whole
   pub keeps : m.keeps ↔ m'.keeps
@@ -124,7 +124,7 @@ pub record StartsSame {P T R E V S S' : Type 0} (m : Meaning P T R E V S) (m' : 
   pub adds : (is : List (ErrorItem T R)) → m.adds is ↔ m'.adds is
 
 module _ {P T R E V S S' S'' : Type 0} (joins : E → E → E → Type 0) (a : Meaning P T R E V S) (b : Meaning P T R E V S') (c : Meaning P T R E V S'') where
-  -- a choice grouped from the left means the same as grouped from the right
+  -- grouped from the left a choice means what it does grouped from the right
   pub is_associative : StartsSame (either_of joins (either_of joins a b) c) (either_of joins a (either_of joins b c))
   is_associative = record {
     whole = either_lists_assoc a.whole b.whole c.whole;

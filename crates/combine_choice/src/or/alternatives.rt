@@ -1,4 +1,4 @@
-//! Borrowed alternatives: a parser, or a pair of two halves of a choice. Our own: `or` and the choices over tuples consist of them.
+//! Alternatives that are lent: a parser, or a pair of two halves of a choice. Our own: `or` and the choices over tuples are made of it.
 ghost use Rattle.std.specs.Prelude.{◌≡◌, refl};
 ghost use Rattle.combine_choice.specs.Choice.Alternatives.{both_merged};
 ghost use Rattle.combine_choice.specs.Choice.ChoiceCalls.{FollowedCall, TriedCall};
@@ -11,40 +11,40 @@ use combine_base::error::{ParseResult, Tracked};
 use combine_base::parser::{ParseMode, Parser};
 use combine_base::stream::Stream;
 
-/// Marks the first half of a choice, or a whole one.
+/// The first half of a choice, or a whole one.
 pub struct FirstHalf;
 
-/// Marks the second half of a choice.
+/// The second half of a choice.
 pub struct SecondHalf;
 
-/// Borrowed alternatives, of which the first, in order, that isn't refused peeked gives the result.
+/// Alternatives that are lent, of which the first, in order, that isn't refused peeked gives the result.
 ///
-/// The contract of a call is that of a parser, and that the same parsers are borrowed as before, so the owner knows what they became.
+/// What a call promises is that of a parser, and that the same parsers are lent as before: so the lender knows what they became.
 pub trait Alternatives<Input: Stream> {
     ghost use Rattle.combine_base.specs.Parser.Meaning.{Meaning, IsMeaning};
     ghost use Rattle.combine_choice.specs.Choice.ChoiceCalls.{ChoseCall};
 
-    /// The type of the value.
+    /// The value of an acceptance.
     type Output: Drop;
 
-    /// The kept state: the running alternative and its state.
+    /// What is kept while more input is needed: the running alternative and its state.
     type State: Default + Drop;
 
-    /// Precondition of a call on the alternatives.
+    /// What a call needs of the alternatives.
     ghost lawful: { Self → Type 0 };
 
-    /// The states that a call may get.
+    /// The states that a call may be given.
     ghost valid: { Self.State → Type 0 };
 
-    /// The meaning of the choice.
+    /// What the choice means.
     ghost meaning: { Self → Meaning Input.Position Input.Token Input.Range Input.Error Self.Output Self.State };
 
-    /// Whether both borrow the same parsers.
+    /// The same parsers are lent.
     ghost same: { Self → Self → Type 0 };
 
-    /// Chooses from the start or from the kept state.
+    /// Chooses, afresh or from the kept state.
     ///
-    /// `H` tells the halves of a choice apart: two halves of one type then have separate code, each called from one place.
+    /// `H` says which half of a choice this is: of two of the same types each has code of its own, which is called from one place.
     fn choose<M: ParseMode, H>(
         &mut self,
         mode: M,
@@ -63,7 +63,7 @@ pub trait Alternatives<Input: Stream> {
     ghost laws: { (p : Self) → lawful p → IsMeaning Self.State.is_default valid (meaning p) };
 }
 
-/// A parser is one alternative.
+/// A parser is an alternative.
 impl<Input: Stream, P: Parser<Input>> Alternatives<Input> for &mut P {
     type Output = P::Output;
 
@@ -117,7 +117,7 @@ pub fn choose_first_half<Input: Stream, L: Alternatives<Input>, S: Default + Dro
     settle_first(start, position, input, kept, answer, state)
 }
 
-/// Runs the second half of a choice from its state, after the first half's refusal, if it ran.
+/// Runs the second half of a choice, which goes on from that state, after that refusal of the first.
 #[inline(always)]
 pub fn choose_second_half<Input: Stream, R: Alternatives<Input>, S: Drop, M: ParseMode>(
     half: &mut R,
@@ -140,7 +140,7 @@ pub fn choose_second_half<Input: Stream, R: Alternatives<Input>, S: Drop, M: Par
 
 /// Two halves are one choice, which chooses as `or` does.
 ///
-/// The code of each half occurs once in it, so nothing that resumes has to be a separate function over the stream.
+/// The code of each half stands once in it, so that nothing that resumes needs to be a function of its own over the stream.
 impl<
     Input: Stream,
     L: Alternatives<Input>,

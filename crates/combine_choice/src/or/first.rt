@@ -1,4 +1,4 @@
-//! The first part of a choice, and the step to the later part. Our own: `or` and the choices over tuples consist of it.
+//! The first part of a choice, and what follows it. Our own: what `or` and the choices over tuples are made of.
 ghost use Rattle.std.specs.Prelude.{◌≡◌, false};
 ghost use Rattle.combine_base.specs.Stream.Calls.{Passes};
 ghost use Rattle.combine_choice.specs.Choice.Alternatives.{both_merged};
@@ -10,16 +10,16 @@ use combine_base::parser::ParseMode;
 use combine_base::stream::{Stream, asks_for_more, needs_more};
 use std::mem::replace;
 
-/// The result of the first part of a choice.
+/// What comes of the first part of a choice.
 #[derive(Drop)]
 pub enum FirstResult<V, S, E> {
     /// The choice ends with this result.
     Done(ParseResult<V, E>),
-    /// The later part runs from this state, after this refusal of the first, if the first ran.
+    /// The later part goes on from that state, or begins after that refusal of the first.
     RunsLater(S, Option<Tracked<E>>),
 }
 
-/// Takes the state to run from: `Ok` with the first part's, or `Err` with the later part's.
+/// Hands out the state of the part that goes on, or begins: the first one's, or that of the later one.
 #[inline(always)]
 pub fn begin<S: Default + Drop, T: Drop, M: ParseMode>(
     state: &mut OrState<S, T>,
@@ -39,9 +39,9 @@ pub fn begin<S: Default + Drop, T: Drop, M: ParseMode>(
     }
 }
 
-/// Settles the choice after the first part's result.
+/// Goes on after the first part's result.
 ///
-/// After a peeked refusal the stream is put back, and the later part runs. Any other result ends the choice; on need of more the first part's state is kept.
+/// A peeked refusal is put back, and the later part goes on. Any other result ends the choice, and on need of more the first part's state is kept.
 #[inline(always)]
 pub fn settle_first<O, Input: Stream, S: Drop, T: Default + Drop>(
     start: Input::Checkpoint,
@@ -71,7 +71,7 @@ pub fn settle_first<O, Input: Stream, S: Drop, T: Default + Drop>(
     }
 }
 
-/// Returns the result of the choice from that of the later part, after the first part's refusal, if it ran.
+/// Returns the choice's result of that of the later part, after that refusal of the first.
 ///
 /// On need of more the later part's state is kept.
 #[inline(always)]

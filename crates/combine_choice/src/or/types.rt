@@ -1,4 +1,4 @@
-//! The types of the parsers that the functions of `choice` return.
+//! The parsers that the functions of `choice` return.
 ghost use Rattle.std.specs.Prelude.{◌≡◌};
 ghost use Rattle.combine_choice.specs.Choice.Alternatives.{both_merged};
 ghost use Rattle.combine_choice.specs.Choice.Optional.{optional, optional_is_meaning, optional_means_one};
@@ -47,7 +47,7 @@ impl<Input: Stream, P: Parser<Input>, Q: Parser<Input, Output = P::Output>> Pars
         halves.choose::<_, FirstHalf>(mode, input, state)
     }
 
-    /// Adds the first parser's items, then the second's.
+    /// Adds what the first adds, and then what the second does.
     fn add_error(&mut self, error: &mut Tracked<Input::Error>) {
         self.0.add_error(error);
         self.1.add_error(error);
@@ -106,7 +106,7 @@ impl<Input: Stream, P: Parser<Input>> Parser<Input> for Optional<P> {
         }
     }
 
-    /// Adds the parser's items.
+    /// Adds what the parser adds.
     fn add_error(&mut self, error: &mut Tracked<Input::Error>) {
         self.0.add_error(error)
     }

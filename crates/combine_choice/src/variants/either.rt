@@ -1,4 +1,4 @@
-//! `Either`, a parser that is one of two.
+//! A parser that is one of two.
 ghost use Rattle.std.specs.Prelude.{◌≡◌};
 ghost use Rattle.combine_choice.specs.HeldParser.{Started};
 ghost use Rattle.combine_choice.specs.Variants2.{each_2, pick_left, pick_right};
@@ -8,9 +8,9 @@ use combine_base::parser::{Outputs, ParseMode, Parser};
 use combine_base::stream::Stream;
 use std::mem::take;
 
-/// One of two parsers, with the meaning of the one that it holds; or the state of one of them.
+/// One of two parsers, which means the one that it holds; or the state of one of them.
 ///
-/// A kept state of the other variant than the parser's is the beginning, and so is a variant that holds a default state. After every result but need of more the state is such a default, in the variant of the parser: it may be `Right`, where `Either::default()` is `Left`.
+/// A kept state of another variant than the parser holds is the beginning, and so is a variant that holds a default state. The latter is what every result but need of more leaves, in the variant of the parser: it may be `Right`, where `Either::default()` is `Left`.
 ///
 /// # Examples
 ///
@@ -31,7 +31,7 @@ pub enum Either<L, R> {
     Right(R),
 }
 
-/// Returns the result as it is, rebuilt in each arm, so that the caller's match on it is compiled once after each variant and not where the variants meet.
+/// Returns the same result, made anew in each case: so what asks for the case next is compiled after each variant, and not after the place where their results meet.
 #[inline(always)]
 fn passed_on<O, E>(answer: ParseResult<O, E>) -> ParseResult<O, E>
     ensures { result ≡ answer }
@@ -121,7 +121,7 @@ impl<Input: Stream, L: Parser<Input>, R: Parser<Input, Output = L::Output>> Pars
         }
     }
 
-    /// Adds the items of the parser inside.
+    /// Adds what the parser inside adds.
     fn add_error(&mut self, error: &mut Tracked<Input::Error>) {
         match self {
             Either::Left(parser) => parser.add_error(error),

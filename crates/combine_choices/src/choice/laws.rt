@@ -7,7 +7,7 @@ use super::{ChoiceParser, Slice};
 use combine_base::parser::Parser;
 use combine_base::stream::Stream;
 
-/// A choice over a slice means the same as over an array of the same parsers, also from each kept state.
+/// The law that a choice over a slice means what that over an array of the same parsers means, also from each kept state.
 pub fn slice_is_array<'a, Input: Stream, P: Parser<Input>, const N: usize>(
     slice: &Slice<'a, P>,
     array: &[P; N],
@@ -18,44 +18,44 @@ pub fn slice_is_array<'a, Input: Stream, P: Parser<Input>, const N: usize>(
         (⟦<[P; N] as ChoiceParser<Input>>⟧.meaning array.now) }
 {}
 
-/// A choice over a tuple of two means the same as over an array of the same parsers.
+/// The law that a choice over a tuple of two means what that over an array of the same parsers means.
 ///
-/// They have the same outcomes from the start, leave tokens unread and allocate alike, and add the same items to an error.
+/// They have the same outcomes from the start, leave tokens unread and ask for memory alike, and add the same items to an error.
 pub fn tuple_2_is_array<Input: Stream, P: Parser<Input>>(a: &P, b: &P)
     ensures { StartsSame
         (⟦<(P, P) as ChoiceParser<Input>>⟧.meaning (a.now, b.now))
         (⟦<[P; 2] as ChoiceParser<Input>>⟧.meaning (a.now ∷ b.now ∷ [])) }
 {}
 
-/// A choice over a tuple of three means the same as over an array of the same parsers, as in `tuple_2_is_array`.
+/// The law that a choice over a tuple of three means what that over an array of the same parsers means, as in `tuple_2_is_array`.
 pub fn tuple_3_is_array<Input: Stream, P: Parser<Input>>(a: &P, b: &P, c: &P)
     ensures { StartsSame
         (⟦<(P, P, P) as ChoiceParser<Input>>⟧.meaning (a.now, b.now, c.now))
         (⟦<[P; 3] as ChoiceParser<Input>>⟧.meaning (a.now ∷ b.now ∷ c.now ∷ [])) }
 {}
 
-/// A choice over a tuple of four means the same as over an array of the same parsers, as in `tuple_2_is_array`.
+/// The law that a choice over a tuple of four means what that over an array of the same parsers means, as in `tuple_2_is_array`.
 pub fn tuple_4_is_array<Input: Stream, P: Parser<Input>>(a: &P, b: &P, c: &P, d: &P)
     ensures { StartsSame
         (⟦<(P, P, P, P) as ChoiceParser<Input>>⟧.meaning (a.now, b.now, c.now, d.now))
         (⟦<[P; 4] as ChoiceParser<Input>>⟧.meaning (a.now ∷ b.now ∷ c.now ∷ d.now ∷ [])) }
 {}
 
-/// A choice over a tuple of five means the same as over an array of the same parsers, as in `tuple_2_is_array`.
+/// The law that a choice over a tuple of five means what that over an array of the same parsers means, as in `tuple_2_is_array`.
 pub fn tuple_5_is_array<Input: Stream, P: Parser<Input>>(a: &P, b: &P, c: &P, d: &P, e: &P)
     ensures { StartsSame
         (⟦<(P, P, P, P, P) as ChoiceParser<Input>>⟧.meaning (a.now, b.now, c.now, d.now, e.now))
         (⟦<[P; 5] as ChoiceParser<Input>>⟧.meaning (a.now ∷ b.now ∷ c.now ∷ d.now ∷ e.now ∷ [])) }
 {}
 
-/// A choice over a tuple of six means the same as over an array of the same parsers, as in `tuple_2_is_array`.
+/// The law that a choice over a tuple of six means what that over an array of the same parsers means, as in `tuple_2_is_array`.
 pub fn tuple_6_is_array<Input: Stream, P: Parser<Input>>(a: &P, b: &P, c: &P, d: &P, e: &P, f: &P)
     ensures { StartsSame
         (⟦<(P, P, P, P, P, P) as ChoiceParser<Input>>⟧.meaning (a.now, b.now, c.now, d.now, e.now, f.now))
         (⟦<[P; 6] as ChoiceParser<Input>>⟧.meaning (a.now ∷ b.now ∷ c.now ∷ d.now ∷ e.now ∷ f.now ∷ [])) }
 {}
 
-/// A choice over a tuple of seven means the same as over an array of the same parsers, as in `tuple_2_is_array`.
+/// The law that a choice over a tuple of seven means what that over an array of the same parsers means, as in `tuple_2_is_array`.
 pub fn tuple_7_is_array<Input: Stream, P: Parser<Input>>(
     a: &P,
     b: &P,
@@ -70,7 +70,7 @@ pub fn tuple_7_is_array<Input: Stream, P: Parser<Input>>(
         (⟦<[P; 7] as ChoiceParser<Input>>⟧.meaning (a.now ∷ b.now ∷ c.now ∷ d.now ∷ e.now ∷ f.now ∷ g.now ∷ [])) }
 {}
 
-/// A choice over a tuple of eight means the same as over an array of the same parsers, as in `tuple_2_is_array`.
+/// The law that a choice over a tuple of eight means what that over an array of the same parsers means, as in `tuple_2_is_array`.
 pub fn tuple_8_is_array<Input: Stream, P: Parser<Input>>(
     a: &P,
     b: &P,

@@ -19,12 +19,12 @@ use std::mem::replace;
 
 /// The running alternative of a choice over a slice or an array, and its state.
 ///
-/// The default is `Peek`. A choice keeps an alternative only on need of more. An index past the last alternative is the beginning.
+/// A choice makes it by `Default`, which is `Peek`, and keeps an alternative in it on need of more alone. An index past the last alternative is the beginning.
 #[derive(Drop)]
 pub enum SliceState<S> {
-    /// No alternative is running.
+    /// No alternative runs.
     Peek,
-    /// The alternative at this index is running, from this state.
+    /// The alternative at that index runs, from that state.
     At { index: usize, state: S },
 }
 
@@ -40,11 +40,13 @@ impl<S> Default for SliceState<S> {
 
 /// The alternatives of a slice, for a choice.
 ///
-/// In combine the slice itself is a choice.
+/// In the crate the slice itself is a choice.
 #[derive(Drop)]
 pub struct Slice<'a, P>(pub &'a mut [P]);
 
-/// Runs the alternative at an index from its state, which is kept in `state` on need of more.
+/// Runs the alternative at an index, which goes on, or begins.
+///
+/// On need of more it is kept in `state`.
 #[inline(always)]
 fn try_alternative<Input: Stream, P: Parser<Input>, M: ParseMode>(
     alternative: &mut P,
@@ -72,7 +74,7 @@ fn try_alternative<Input: Stream, P: Parser<Input>, M: ParseMode>(
     answer
 }
 
-/// Runs the alternatives from an index on, the first of them from its state, the later ones from the start.
+/// Runs the alternatives from that index on, the first of them from that state, the later ones afresh.
 #[inline(always)]
 fn choose<Input: Stream, P: Parser<Input>, M: ParseMode>(
     alternatives: &mut [P],
@@ -121,7 +123,7 @@ fn choose<Input: Stream, P: Parser<Input>, M: ParseMode>(
     ParseResult::PeekErr(refused)
 }
 
-/// Calls `choose` where a call resumes; as a function of its own it keeps that copy out of the code of calls that begin afresh, with the loop once.
+/// Runs the alternatives as `choose` does, in a call that resumes: apart from the code of calls that begin afresh, which holds the loop once.
 fn resume<Input: Stream, P: Parser<Input>, M: ParseMode>(
     alternatives: &mut [P],
     index: usize,
@@ -140,7 +142,7 @@ fn resume<Input: Stream, P: Parser<Input>, M: ParseMode>(
     choose(alternatives, index, mode, input, kept, state)
 }
 
-/// Refuses a choice with no alternatives.
+/// Refuses a choice among no alternatives.
 fn no_alternative<O, Input: Stream>(input: &Input) -> ParseResult<O, Input::Error>
     ensures { NoAlternative Input.Error.observers (Input.view input.now).position result }
 {
@@ -148,9 +150,9 @@ fn no_alternative<O, Input: Stream>(input: &Input) -> ParseResult<O, Input::Erro
     peeked(Tracked::from(error))
 }
 
-/// Returns which of `count` alternatives to resume, and its state.
+/// Returns which of `count` alternatives a call goes on with, and its state.
 ///
-/// It is `Peek` if the call begins afresh, or if no alternative has the kept index.
+/// That is `Peek` where the call begins afresh, also where no alternative has that index.
 #[inline(always)]
 fn running<S: Drop, M: ParseMode>(kept: SliceState<S>, count: usize, mode: M) -> SliceState<S>
     ensures { ResumesAlternative (M.first mode) kept count result }
@@ -208,7 +210,7 @@ fn parse_slice<Input: Stream, P: Parser<Input>, M: ParseMode>(
     }
 }
 
-/// Adds each alternative's items to an error, in order.
+/// Adds to an error what the alternatives add, in order.
 fn add_errors<Input: Stream, P: Parser<Input>>(
     alternatives: &mut [P],
     error: &mut Tracked<Input::Error>,
@@ -267,7 +269,7 @@ impl<Input, P: Outputs<Input>, const N: usize> ChoiceOutputs<Input> for [P; N] {
     type Output = P::Output;
 }
 
-/// An array has the meaning of the slice of its alternatives.
+/// An array is parsed as the slice of its alternatives.
 impl<Input: Stream, P: Parser<Input>, const N: usize> ChoiceParser<Input> for [P; N] {
     ghost use Rattle.std.specs.List.{All};
     ghost use Rattle.combine_base.specs.Parser.Meaning.{IsMeaning, MeansOne};

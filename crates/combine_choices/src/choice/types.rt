@@ -1,4 +1,4 @@
-//! The type of the parser that `choice` returns.
+//! The parsers that the functions of `choice` return.
 
 use super::{ChoiceOutputs, ChoiceParser};
 use combine_base::error::{ErrorOffset, ParseResult, Tracked};
@@ -41,7 +41,7 @@ impl<Input: Stream, P: ChoiceParser<Input>> Parser<Input> for Choice<P> {
         self.0.parse_mode_choice(mode, input, state)
     }
 
-    /// Adds each alternative's items, in order.
+    /// Adds what the alternatives add, in order.
     fn add_error(&mut self, error: &mut Tracked<Input::Error>) {
         self.0.add_error_choice(error)
     }

@@ -1,4 +1,4 @@
-//! Parsers that begin again in each call, with an outcome that is a function of their part's.
+//! Parsers whose calls each begin again: their outcome is read off that of their part, which keeps no state.
 ghost use Rattle.std.specs.Prelude.{◌≡◌};
 ghost use Rattle.combine_base.specs.Error.Errors.{AddsNothing};
 ghost use Rattle.combine_base.specs.Stream.Calls.{Passes};
@@ -23,7 +23,7 @@ pub struct NotFollowedBy<P>(pub(super) P);
 #[derive(Clone, Copy, Drop)]
 pub struct NoPartial<P>(pub(super) P);
 
-/// Returns `answer` with the stream put back, or the fault `Reset` if that fails.
+/// Puts the stream back, and returns that result, or the fault that it could not be put back.
 #[inline]
 fn put_back<O: Drop, Input: Stream>(
     input: &mut Input,
@@ -87,13 +87,13 @@ impl<Input: Stream, P: Parser<Input>> Parser<Input> for LookAhead<P> {
         }
     }
 
-    /// Adds the part's items.
+    /// Adds what its part adds.
     #[inline]
     fn add_error(&mut self, error: &mut Tracked<Input::Error>) {
         self.0.add_error(error);
     }
 
-    /// Counts as the part does.
+    /// Counts as its part does.
     #[inline]
     fn parser_count(&self) -> ErrorOffset {
         self.0.parser_count()
@@ -168,7 +168,7 @@ impl<Input: Stream, P: Parser<Input>> Parser<Input> for NotFollowedBy<P> {
     #[inline]
     fn add_error(&mut self, error: &mut Tracked<Input::Error>) {}
 
-    /// Counts as the part does.
+    /// Counts as its part does.
     #[inline]
     fn parser_count(&self) -> ErrorOffset {
         self.0.parser_count()
@@ -218,13 +218,13 @@ impl<Input: Stream, P: Parser<Input>> Parser<Input> for NoPartial<P> {
         }
     }
 
-    /// Adds the part's items.
+    /// Adds what its part adds.
     #[inline]
     fn add_error(&mut self, error: &mut Tracked<Input::Error>) {
         self.0.add_error(error);
     }
 
-    /// Counts as the part does.
+    /// Counts as its part does.
     #[inline]
     fn parser_count(&self) -> ErrorOffset {
         self.0.parser_count()

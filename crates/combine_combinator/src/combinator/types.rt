@@ -1,4 +1,4 @@
-//! The types of the parsers that the functions of `combinator` return.
+//! The parsers that the functions of `combinator` return.
 ghost use Rattle.std.specs.Prelude.{◌≡◌, if◌then◌else◌};
 ghost use Rattle.combine_combinator.specs.Attempt.{HasValidTry, IsFreshTry, attempted, attempted_is_meaning, attempted_means_one, refusing, KeepsTokenDistance, PutsBack};
 ghost use Rattle.combine_combinator.specs.CombinatorParsers.{attempt_part, map_function, map_of, map_part};
@@ -16,7 +16,7 @@ use combine_base::parser::{Outputs, ParseMode, Parser};
 use combine_base::stream::{Kind, Positioned, ResetStream, Stream, StreamOnce, needs_more};
 use std::marker::PhantomData;
 
-/// The parser of [`map`](crate::combinator::map), whose function returns a `B`; the state is that of its part.
+/// The parser of [`map`](crate::combinator::map), whose function makes a `B`; the state is that of its part.
 #[derive(Drop)]
 #[derive_where(Clone, Copy; P, F)]
 pub struct Map<P, F, B> {
@@ -26,7 +26,7 @@ pub struct Map<P, F, B> {
 }
 
 impl<P, F, B> Map<P, F, B> {
-    /// Makes the parser of a part and a function.
+    /// Returns the parser of this part and this function.
     #[inline]
     pub(super) fn new(part: P, function: F) -> Self
         ensures { result ≡ map_of part function }
@@ -78,7 +78,7 @@ impl<Input: Stream, P: Parser<Input>, B: Drop, F: Function<P::Output, Output = B
         }
     }
 
-    /// Adds the items of the parser whose value is changed.
+    /// Adds what the parser adds whose value is changed.
     #[inline]
     fn add_error(&mut self, error: &mut Tracked<Input::Error>) {
         self.part.add_error(error);
@@ -91,7 +91,7 @@ impl<Input: Stream, P: Parser<Input>, B: Drop, F: Function<P::Output, Output = B
     }
 }
 
-/// The kept state of `attempt`: the distance that was read, in tokens, and the state of its part.
+/// What `attempt` keeps while more input is needed: the distance that was read, in tokens, and the state of its part.
 #[derive(Drop)]
 pub struct TryState<S> {
     distance: u64,
@@ -111,7 +111,7 @@ impl<S: Default> Default for TryState<S> {
 }
 
 impl<S> TryState<S> {
-    /// Takes the distance that a call begins with: 0 if it begins afresh.
+    /// Hands out the distance that a call begins with: none where it begins afresh.
     #[inline]
     fn begin(&mut self, first: bool) -> u64
         ensures begun { result ≡ (if first then 0 else self.old.distance) }
@@ -182,7 +182,7 @@ impl<Input: Stream, P: Parser<Input>> Parser<Input> for Try<P> {
         }
     }
 
-    /// Adds the items of the parser whose refusals are put back.
+    /// Adds what the parser adds whose refusals are put back.
     #[inline]
     fn add_error(&mut self, error: &mut Tracked<Input::Error>) {
         self.0.add_error(error);
@@ -206,7 +206,7 @@ fn lost(kind: Kind) -> Kind
     }
 }
 
-/// Returns whether an error of this kind is a refusal, unless it is need of more.
+/// Returns whether an error of that kind, where it isn't need of more, is a refusal.
 #[inline]
 pub(super) fn refuses(kind: Kind) -> bool
     ensures { result ≡ refusing kind }
@@ -252,7 +252,7 @@ fn keep_distance<O, Input: Stream, S: Default + Drop>(
     }
 }
 
-/// Returns a fault at a position, and leaves a default state.
+/// Returns a fault at that position, and leaves a default state.
 #[cold]
 fn fault<O, Input: Stream, S: Default + Drop>(
     input: &Input,

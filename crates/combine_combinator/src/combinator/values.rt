@@ -9,27 +9,27 @@ use combine_base::parser::{Outputs, ParseMode, Parser};
 use combine_base::stream::Stream;
 use std::marker::PhantomData;
 
-/// A choice of the part of a value to keep.
+/// What is kept of a value.
 pub trait Pick<A> {
-    /// The type of the part.
+    /// What is kept.
     type Output: Drop;
 
-    /// The part of a value.
+    /// What is kept of that value.
     ghost picked: { A → Self.Output };
 
-    /// The count of a parser that keeps this part, by the count of the parser inside.
+    /// How many parsers a parser that keeps this counts as, by the count of its part.
     ghost counted: { ℕ → ℕ };
 
-    /// Returns the part of the value.
+    /// Returns what is kept of the value.
     fn pick(value: A) -> Self::Output
         ensures { result ≡ picked value };
 
-    /// Returns the count of a parser that keeps this part, by the count of the parser inside.
+    /// Returns how many parsers a parser that keeps this counts as, by the count of its part.
     fn count(inside: ErrorOffset) -> ErrorOffset
         ensures { result.0 ≡ counted inside.0 };
 }
 
-/// A parser whose value is the part of another's value that `W` picks, a `B`; the state is that of the other.
+/// A parser of whose part's value `W` says what is kept, a `B`; the state is that of the part.
 #[derive(Drop)]
 #[derive_where(Clone, Copy; P)]
 pub struct Picked<P, W, B> {
@@ -39,7 +39,7 @@ pub struct Picked<P, W, B> {
 }
 
 impl<P, W, B> Picked<P, W, B> {
-    /// Makes the parser of a part.
+    /// Makes the parser of this part.
     #[inline]
     pub fn new(part: P) -> Self
         ensures { result ≡ picked_of part }
@@ -52,7 +52,7 @@ impl<P, W, B> Picked<P, W, B> {
     }
 }
 
-/// Keeps nothing of a value.
+/// Nothing is kept of a value.
 #[derive(Clone, Copy, Drop)]
 pub struct Nothing;
 
@@ -116,7 +116,7 @@ impl<Input: Stream, P: Parser<Input>, B: Drop, W: Pick<P::Output, Output = B>> P
         }
     }
 
-    /// Adds the items of the parser inside.
+    /// Adds what the parser adds of whose value a part is kept.
     #[inline]
     fn add_error(&mut self, error: &mut Tracked<Input::Error>) {
         self.part.add_error(error);

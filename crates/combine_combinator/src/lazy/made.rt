@@ -1,4 +1,4 @@
-//! A parser that was made, its kept state, and calls of it.
+//! A parser that was made, and what is kept of it.
 ghost use Rattle.std.specs.Prelude.{◌≡◌, true};
 ghost use Rattle.combine_combinator.specs.MadeCalls.{CalledMade, RunsMade};
 ghost use Rattle.combine_combinator.specs.MadeParsers.{MakerLeavesStream, MadeAt};
@@ -18,9 +18,9 @@ pub struct Made<N, U> {
 /// The kept state of `lazy` and `factory`.
 #[derive(Drop)]
 pub enum MadeState<N, U> {
-    /// No parser is kept; the next call makes one.
+    /// No parser is kept, and the next call makes one.
     Unmade,
-    /// The next call goes on with this parser.
+    /// The next call goes on with that one.
     Kept(Made<N, U>),
 }
 
@@ -37,7 +37,7 @@ impl<N, U> Default for MadeState<N, U> {
 
 /// Runs a parser that was made, from its state.
 ///
-/// On need of more the parser and its state are kept in `state`, which is a default one before.
+/// Need of more is kept in `state`, which is a default one.
 #[inline(always)]
 pub fn run_made<Input: Stream, N: Parser<Input> + Drop, M: ParseMode>(
     mode: M,
@@ -64,7 +64,7 @@ pub fn run_made<Input: Stream, N: Parser<Input> + Drop, M: ParseMode>(
     answer
 }
 
-/// Runs the parser as `run_made` does, in a call that resumes; apart, so that the code of calls that begin afresh stays small.
+/// Runs the parser as `run_made` does, in a call that resumes: apart from the code of calls that begin afresh.
 #[inline(never)]
 pub fn resume_made<Input: Stream, N: Parser<Input> + Drop, M: ParseMode>(
     mode: M,
@@ -80,9 +80,9 @@ pub fn resume_made<Input: Stream, N: Parser<Input> + Drop, M: ParseMode>(
     run_made(mode, input, from, state)
 }
 
-/// Calls a maker that leaves the stream in place, and runs the parser that it returns from its start.
+/// Asks a maker that leaves the stream in place, and runs the parser that it returns from its beginning.
 ///
-/// On need of more the parser and its state are kept in `state`.
+/// Need of more is kept in `state`.
 #[inline(always)]
 pub fn make_and_run<
     Input: Stream,

@@ -1,4 +1,4 @@
-//! The types of the parsers that `lazy` and `factory` return.
+//! The parsers that the functions of this module return.
 ghost use Rattle.std.specs.Prelude.{◌≡◌};
 ghost use Rattle.combine_base.specs.Error.Errors.{AddsNothing};
 ghost use Rattle.combine_base.specs.Parser.KeptParsers.{KeptOf};
@@ -59,7 +59,7 @@ impl<Input: Stream, N: Parser<Input> + Drop, F: Maker<Output = N>> Parser<Input>
         run_made(mode, input, made, state)
     }
 
-    /// Adds the items of a parser of the maker.
+    /// Adds what a parser of the maker adds.
     #[inline]
     fn add_error(&mut self, error: &mut Tracked<Input::Error>) {
         let mut parser = self.0.make();

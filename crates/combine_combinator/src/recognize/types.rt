@@ -1,4 +1,4 @@
-//! The type of the parser that `recognize` returns.
+//! The parser that `recognize` returns.
 ghost use Rattle.std.specs.Prelude.{◌≡◌};
 ghost use Rattle.combine_combinator.specs.RecognizedTokens.{HasValidCollecting, IsFreshCollecting, collected_by, recognize_part, recognized_collecting, recognized_collecting_is_meaning, recognized_collecting_means_one};
 
@@ -11,7 +11,7 @@ use combine_base::stream::{Positioned, ResetStream, Stream, StreamOnce, needs_mo
 use std::alloc::Global;
 use std::marker::PhantomData;
 
-/// The tokens taken in earlier pieces.
+/// The tokens that were taken in earlier pieces.
 #[derive(Drop)]
 pub enum Collected<F> {
     /// There is no collection yet.
@@ -21,7 +21,7 @@ pub enum Collected<F> {
 }
 
 impl<F: Drop> Collected<F> {
-    // Returns the collection that the next call appends to.
+    // Returns what the tokens of the next call are appended to.
     #[inline(always)]
     fn or_empty<T>(self, alloc: Global) -> F
     where
@@ -35,7 +35,7 @@ impl<F: Drop> Collected<F> {
     }
 }
 
-/// The kept state of `recognize`: the tokens that were taken, and the state of its part.
+/// What `recognize` keeps while more input is needed: the tokens that were taken, and the state of its part.
 #[derive(Drop)]
 pub struct RecognizeState<F, S> {
     collected: Collected<F>,
@@ -124,7 +124,7 @@ impl<Input: Stream, P: Parser<Input>, F: Append<Input::Token>> Parser<Input> for
         }
     }
 
-    /// Adds the items of the parser whose tokens are collected.
+    /// Adds what the parser adds whose tokens are collected.
     #[inline]
     fn add_error(&mut self, error: &mut Tracked<Input::Error>) {
         self.parser.add_error(error);

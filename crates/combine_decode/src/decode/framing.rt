@@ -1,4 +1,4 @@
-//! The function by which `frame` makes the parser of a message from its length.
+//! A message after its length, and the parser for a length.
 ghost use Rattle.std.specs.Prelude.{◌≡◌};
 ghost use Rattle.combine_decode.specs.Frames.{framing_of};
 ghost use Rattle.combine_sequence.specs.Then.{forget};
@@ -13,7 +13,7 @@ use combine_token::token::types::Any;
 use std::alloc::Global;
 use std::marker::PhantomData;
 
-/// The function from a length to the parser that collects that many bytes. Our own.
+/// The function from a length to the parser of that many bytes, which are collected. Our own.
 #[derive(Drop)]
 #[derive_where(Clone, Copy)]
 pub struct Framing<Input> {

@@ -1,4 +1,4 @@
-//! Laws of messages and of `frame`. The functions do nothing: their contracts are the laws.
+//! What messages are beside one another, and what a frame is. The functions do nothing: their contracts are the laws.
 ghost use Rattle.std.specs.Global.{Vec};
 ghost use Rattle.std.specs.Prelude.{ℕ};
 ghost use Rattle.combine_base.specs.Parser.Outcome.{Outcome};
@@ -14,15 +14,15 @@ use combine_base::parser::Parser;
 use combine_base::stream::{Stream, fed};
 use std::alloc::Global;
 
-/// The law that adding tokens keeps the messages, after which come those of the tokens left over and the added ones.
+/// The law that the messages of tokens with more after them begin with those of the tokens, and go on with those of what was left and the rest.
 pub fn messages_go_on<F: Maker<Output = P>, P: Parser<fed::Stream<T>>, T: Copy + 'static>(maker: &F)
     requires { IsMade (F.returns maker.now) P.lawful }
     ensures { GoOn (made_reading P.meaning (F.returns maker.now)) }
 {}
 
-/// The law that tokens have one division into messages, and one end, if the maker's parsers share one meaning that has one outcome.
+/// The law that tokens have one division into messages, and one end, where the maker's parsers share one meaning that has one outcome.
 ///
-/// A message's value is any that the meaning allows. A meaning doesn't fix how many tokens a refusal counts, so ends are compared without it.
+/// A message's value is any that the meaning allows. How many tokens a refusal counts is not said by a meaning, so ends are compared without it.
 pub fn messages_are_one<F: Maker<Output = P>, P: Parser<fed::Stream<T>>, T: Copy + 'static>(
     maker: &F,
 )
@@ -32,7 +32,7 @@ pub fn messages_are_one<F: Maker<Output = P>, P: Parser<fed::Stream<T>>, T: Copy
     ensures { AreOne (made_reading P.meaning (F.returns maker.now)) }
 {}
 
-/// The law that however the same tokens are cut into pieces, there are as many messages, and the same end, if the maker's parsers share one meaning that has one outcome.
+/// The law that however the same tokens are cut into pieces, there are as many messages, and the same end, where the maker's parsers share one meaning that has one outcome.
 ///
 /// The ends may differ in how many tokens a refusal counts.
 pub fn cuts_agree<F: Maker<Output = P>, P: Parser<fed::Stream<T>>, T: Copy + 'static>(maker: &F)
@@ -42,9 +42,9 @@ pub fn cuts_agree<F: Maker<Output = P>, P: Parser<fed::Stream<T>>, T: Copy + 'st
     ensures { CutsAgree (made_reading P.meaning (F.returns maker.now)) }
 {}
 
-/// The law that the value of `frame` is exactly the bytes after a length, as many as the length is.
+/// The law that the value of `frame` is exactly the bytes after a length, as many as it says.
 ///
-/// If some are missing, more is needed, or ended input is refused; nothing else is refused.
+/// If some are missing more is asked for, or ended input is refused; nothing else is.
 pub fn frame_is_a_length_and_its_bytes<Input: Stream<Token = u8>>(alloc: Global)
 where
     Input::Error: ParseError<u8, Input::Range, Input::Position>,

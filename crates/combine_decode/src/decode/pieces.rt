@@ -11,21 +11,21 @@ use std::alloc::{AllocError, Global};
 
 /// Decodes the pieces as one input. Our own.
 ///
-/// The maker must always be callable, and each parser that it returns must be lawful. However the input is cut, the messages and their end are those of the whole, in order. A refusal counts at most the tokens after the last message. Without pieces, the end is that of the empty input. Pieces after an end other than `More` are ignored.
+/// The maker must always be callable, and each parser that it returns must be lawful. However the input is cut, the messages are those of all of it, in order, and so is their end. A refusal counts at most the tokens after the last message. If there are no pieces, it is the end of the messages of nothing. Pieces after an end other than `More` are not looked at.
 ///
 /// # Errors
 ///
-/// With an error no message is returned, not even those that earlier pieces completed.
+/// An error gives no message, also none of those that pieces before it completed.
 ///
-/// - `TooLong` if a message and the piece that continues it are more than 2^64 - 1 tokens.
-/// - `Memory` if out of memory for a piece.
-/// - `Fault`, of kind `Memory`, if a parser or a list of messages is out of memory.
+/// - `TooLong` if a message and the piece that goes on with it are more than 2^64 - 1 tokens.
+/// - `Memory` if a piece finds no room.
+/// - `Fault`, of kind `Memory`, if a growth is refused later: a parser's, or that of a list of messages.
 ///
-/// `Closed` and `Failed` never occur.
+/// `Closed` and `Failed` never come.
 ///
 /// # Partial input
 ///
-/// The pieces end open, and no message is judged by their end: one that isn't complete there is left, and the end is `More`.
+/// The end of the pieces is open, and no message is judged by it: one that isn't complete there is left, and the end is `More`.
 ///
 /// # Examples
 ///
@@ -51,7 +51,6 @@ pub fn decode_pieces<
 {
     let mut decoder = Decoder::new(alloc, maker);
     let mut messages = Vec::new(alloc);
-    // The label names the loop's invariant.
     'pieces: for piece in pieces {
         match feed_more(&mut decoder, piece, &mut messages) {
             Ok(end) => match end {
@@ -61,14 +60,14 @@ pub fn decode_pieces<
             Err(error) => return Err(error),
         }
     }
-    // Without pieces nothing was parsed yet.
+    // If there are no pieces, nothing was parsed yet.
     match feed_more(&mut decoder, &[], &mut messages) {
         Ok(end) => Ok(Batch { messages, end }),
         Err(error) => Err(error),
     }
 }
 
-/// Feeds a piece, adds its messages to the earlier ones, and returns the reason why there are no more.
+/// Feeds a piece, puts its messages after those before, and returns why there are no more.
 fn feed_more<F: Maker<Output = P>, P: Parser<fed::Stream<T>> + Drop, T: Copy + 'static>(
     decoder: &mut Decoder<F, P, T>,
     piece: &[T],
@@ -93,11 +92,10 @@ fn feed_more<F: Maker<Output = P>, P: Parser<fed::Stream<T>> + Drop, T: Copy + '
     }
 }
 
-/// Adds messages to the earlier ones.
+/// Puts messages after those before.
 fn append<V: Drop>(messages: &mut Vec<V>, more: Vec<V>) -> Result<(), AllocError>
     ensures { MatchResult result (λ _. messages.new.items ≡ messages.old.items ++ more.items) (λ _. Unit {0}) }
 {
-    // The label names the loop's invariant.
     'more: for message in more {
         messages.push(message)?;
     }

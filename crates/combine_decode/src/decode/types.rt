@@ -1,4 +1,4 @@
-//! The parser that `frame` returns.
+//! The parser that the function of `decode` returns.
 
 pub use super::framing::Framing;
 use combine_byte::num::types::BeU16;
@@ -6,5 +6,5 @@ use combine_sequence::sequence::types::Answered;
 
 /// The parser of [`frame`](crate::decode::frame).
 ///
-/// It is composed of other parsers' types, and is no type of its own.
+/// It is no type of its own, but one that is composed of others.
 pub type Frame<Input> = Answered<BeU16<Input>, Framing<Input>, Vec<u8>>;

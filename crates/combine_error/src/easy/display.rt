@@ -1,13 +1,13 @@
-//! The texts of errors that keep their items.
+//! What people read of an error that keeps items.
 //!
-//! The words are combine's: a line with the position, a line for each unexpected item, one for all expected ones, and one for each message.
+//! The words are the crate's: a line that says where the error stands, a line for each item that was not expected, one for all that was expected, and one for each message.
 
 use crate::easy::{Error, Errors, is_expected};
 use combine_base::error::Info;
 use std::fmt;
 use std::fmt::Display;
 
-/// Writes `Unexpected ..`, `Expected ..`, or the message alone, with tokens and ranges in backquotes.
+/// Writes `Unexpected ..`, `Expected ..`, or the message alone. Tokens and ranges stand in backquotes.
 impl<T: Display, R: Display> Display for Error<T, R> {
     fn fmt<W: fmt::Write>(&self, f: &mut fmt::Formatter<W>) -> fmt::Result {
         match self {
@@ -24,7 +24,7 @@ impl<T: Display, R: Display> Display for Error<T, R> {
     }
 }
 
-/// Writes the position, then a line for each item, except that the expected items share one.
+/// Writes the position, and then a line for each item but those that say what was expected, which share one.
 ///
 /// Each line ends with a line feed.
 impl<T: Display, R: Display, P: Display> Display for Errors<T, R, P> {
@@ -51,7 +51,7 @@ fn write_info<T: Display, R: Display, W: fmt::Write>(
     }
 }
 
-// Writes a line for each unexpected item.
+// Writes a line for each item that was not expected.
 fn write_unexpected<T: Display, R: Display, W: fmt::Write>(
     errors: &[Error<T, R>],
     f: &mut fmt::Formatter<W>,
@@ -64,7 +64,7 @@ fn write_unexpected<T: Display, R: Display, W: fmt::Write>(
     Ok(())
 }
 
-// Writes the separator before the n-th of `count` expected items, counted from 0.
+// Writes what stands before the n-th of `count` expected items, the first being number 0.
 fn write_separator<W: fmt::Write>(
     n: usize,
     count: usize,
@@ -79,7 +79,7 @@ fn write_separator<W: fmt::Write>(
     write!(f, " or ")
 }
 
-// Writes one line of all expected items, if there are any: `Expected a, b or c`.
+// Writes a line of all that was expected, if anything was: `Expected a, b or c`.
 fn write_expected<T: Display, R: Display, W: fmt::Write>(
     errors: &[Error<T, R>],
     f: &mut fmt::Formatter<W>,

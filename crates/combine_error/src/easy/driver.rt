@@ -1,4 +1,4 @@
-//! `EasyParser`, the driver whose errors keep their items.
+//! The driver whose errors keep items.
 ghost use Rattle.combine_base.specs.Parser.Meaning.{IsSingle, MeansSame};
 ghost use Rattle.combine_base.specs.Parser.AnswersCalls.{ParsesCall};
 ghost use Rattle.combine_error.specs.Easy.{listed_errors};
@@ -8,27 +8,27 @@ use combine_base::parser::Parser;
 use combine_base::stream::Stream;
 use std::alloc::Global;
 
-/// Parses with errors that keep their items.
+/// Parses with errors that keep items.
 ///
-/// Every parser over an `easy::Stream` implements it.
+/// Every parser over an `easy::Stream` has it.
 pub trait EasyParser<S: Stream>: Parser<EasyStream<S>>
 where
     S::Token: PartialEq,
     S::Range: PartialEq,
 {
-    /// Parses from the start, and returns the value and the rest of the input.
+    /// Parses from the start, and returns the value and the input that is left.
     ///
     /// It is `parse` over an `easy::Stream`.
     ///
-    /// The items of errors are allocated in `alloc`.
+    /// The items of errors take their memory from `alloc`.
     ///
     /// # Errors
     ///
-    /// The error has the unexpected item and the expected ones. If there is no memory for an item, the error's kind is `Memory`.
+    /// The error says what stood there and what was expected. An item that finds no memory makes it an error of kind `Memory`.
     ///
     /// # Differences from combine
     ///
-    /// combine takes no allocator.
+    /// It takes an allocator.
     ///
     /// # Examples
     ///

@@ -1,4 +1,4 @@
-//! Streams whose errors keep their items.
+//! Streams whose errors keep items.
 ghost use Rattle.std.specs.Prelude.{◌≡◌};
 ghost use Rattle.combine_error.specs.Easy.{inner_stream};
 
@@ -9,27 +9,27 @@ use combine_stream::range::{Range, RangeStream};
 use combine_stream::{Unfailing, position};
 use std::alloc::Global;
 
-/// A stream whose parsers are refused with errors that keep their items.
+/// A stream whose parsers are refused with errors that keep items.
 ///
-/// An error that the stream makes has no items and allocates nothing.
+/// An error as the stream makes it has no items and takes no memory.
 ///
 /// # Differences from combine
 ///
-/// In combine it is `Stream(pub S)`. This one also has an allocator, in which the added items are allocated.
+/// In the crate it is `Stream(pub S)`. This one keeps an allocator, from which items that are added take their memory.
 #[derive(Drop)]
 pub struct Stream<S> {
     inner: S,
     alloc: Global,
 }
 
-/// A text whose errors keep their items and have lines and columns.
+/// A text whose errors keep items and stand at lines and columns.
 pub type TextStream<'a> = Stream<position::TextStream<'a>>;
 
-/// A slice whose errors keep their items and have indexes.
+/// A slice whose errors keep items and stand at indexes.
 pub type SliceStream<'a, T> = Stream<position::SliceStream<'a, T>>;
 
 impl<S> Stream<S> {
-    /// Makes the stream; the items of its errors are allocated in `alloc`.
+    /// Makes the stream, with errors whose items take their memory from there.
     #[inline]
     pub fn new(alloc: Global, inner: S) -> Self
         ensures { inner_stream result ≡ inner }

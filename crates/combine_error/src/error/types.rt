@@ -1,4 +1,4 @@
-//! The types of the parsers that `message`, `expected` and `silent` return.
+//! The parsers that shape errors.
 ghost use Rattle.std.specs.Prelude.{◌≡◌, ◌↔◌, true};
 ghost use Rattle.combine_base.specs.Error.Errors.{AddsNothing, Only};
 ghost use Rattle.combine_base.specs.Error.Items as items;
@@ -14,7 +14,7 @@ use std::alloc::AllocError;
 
 /// The parser of [`message`](crate::error::message).
 ///
-/// `I` is an `Info`; in combine it is any type that converts into one.
+/// `I` is an `Info`, in the crate what is turned into one.
 #[derive(Drop)]
 pub struct Message<P, I> {
     pub(super) parser: P,
@@ -23,7 +23,7 @@ pub struct Message<P, I> {
 
 /// The parser of [`expected`](crate::error::expected).
 ///
-/// `I` is an `Info`; in combine it is any type that converts into one.
+/// `I` is an `Info`, in the crate what is turned into one.
 #[derive(Drop)]
 pub struct Expected<P, I> {
     pub(super) parser: P,
@@ -60,7 +60,7 @@ impl<P: Clone, A: Copy, R: Copy> Clone for Expected<P, Info<A, R>> {
     }
 }
 
-// Returns whether a committed error is a refusal, not need of more or a fault.
+// Returns whether a committed error is a refusal: no need of more, and no fault.
 #[inline]
 fn is_refusal<Input: Stream>(input: &Input, error: &Input::Error) -> bool
     ensures { (result ≡ true) ↔ IsRefusal (Input.view input.now).is_open (Input.Error.observers.kind error.now) }
@@ -74,7 +74,7 @@ fn is_refusal<Input: Stream>(input: &Input, error: &Input::Error) -> bool
 
 /// Adds a message to a committed refusal. Our own.
 ///
-/// Any other result is returned as it is: need of more and faults with their errors, and a peeked refusal, which `add_error` explains.
+/// Any other answer is returned as it is: need of more and faults with their errors, and a peeked refusal, which `add_error` explains.
 pub fn add_message_to_refusal<O: Drop, Input: Stream>(
     input: &Input,
     info: &Info<Input::Token, Input::Range>,
@@ -97,9 +97,9 @@ pub fn add_message_to_refusal<O: Drop, Input: Stream>(
     }
 }
 
-/// Removes the expected items from a refusal, committed or peeked. Our own.
+/// Clears what was expected from a refusal, committed or peeked. Our own.
 ///
-/// Any other result is returned as it is, need of more and faults with their errors.
+/// Any other answer is returned as it is, need of more and faults with their errors.
 pub fn clear_expected_of_refusal<O: Drop, Input: Stream>(
     input: &Input,
     answer: ParseResult<O, Input::Error>,
@@ -160,7 +160,7 @@ impl<Input: Stream, P: Parser<Input>> Parser<Input>
         add_message_to_refusal(input, &self.info, answer)
     }
 
-    /// Adds the parser's items, then the message.
+    /// Adds what the parser adds, and then the message.
     fn add_error(&mut self, error: &mut Tracked<Input::Error>) {
         self.parser.add_error(error);
         error.error.add_message(&self.info);
@@ -249,7 +249,7 @@ impl<Input: Stream, P: Parser<Input>> Parser<Input>
         self.parser.parse_mode(mode, input, state)
     }
 
-    /// Adds the parser's items except the expected ones, then the given one.
+    /// Adds what the parser adds but what it says was expected, and then that this was.
     fn add_error(&mut self, error: &mut Tracked<Input::Error>) {
         let kept = error.error.count_items();
         self.parser.add_error(error);

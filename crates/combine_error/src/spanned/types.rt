@@ -1,4 +1,4 @@
-//! The type of the parser that `spanned` returns.
+//! The parser that `spanned` returns.
 ghost use Rattle.std.specs.Prelude.{◌≡◌};
 ghost use Rattle.combine_error.specs.SpannedErrors.{Spans, SpansAnswer, spanned, spanned_is_meaning, spanned_means_one, spanned_part};
 
@@ -11,7 +11,7 @@ use combine_base::stream::{Positioned, Stream, StreamOnce};
 #[derive(Clone, Drop)]
 pub struct Spanned<P>(pub(super) P);
 
-// Sets the span of an error that is at one position.
+// Makes an error that stands at one position stand at that span.
 #[inline]
 fn set_span<T, R, Q: Ord + Copy, E: DetailedError<T, R, Span<Q>>>(error: &mut E, span: Span<Q>)
     ensures { Spans Q.cmp E.observers span error.old error.new }
@@ -23,7 +23,7 @@ fn set_span<T, R, Q: Ord + Copy, E: DetailedError<T, R, Span<Q>>>(error: &mut E,
     }
 }
 
-// Sets the span of a result's error, if that is at one position.
+// Makes the error of a result stand at that span, where it stands at one position.
 #[inline]
 fn at_span<O, T, R, Q: Ord + Copy, E: DetailedError<T, R, Span<Q>>>(
     answer: ParseResult<O, E>,
@@ -85,13 +85,13 @@ where
         at_span(answer, Span { start, end })
     }
 
-    /// Adds the parser's items.
+    /// Adds what the parser adds.
     #[inline]
     fn add_error(&mut self, error: &mut Tracked<Input::Error>) {
         self.0.add_error(error);
     }
 
-    /// Counts as one parser, whatever the count of the parser inside.
+    /// Counts as one parser, whatever the parser counts.
     #[inline]
     fn parser_count(&self) -> ErrorOffset {
         ErrorOffset(1)

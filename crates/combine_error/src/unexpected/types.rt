@@ -1,4 +1,4 @@
-//! The type of the parser that `unexpected` and `unexpected_any` return.
+//! The parser that the functions of `error` return.
 ghost use Rattle.std.specs.Prelude.{◌≡◌};
 ghost use Rattle.combine_base.specs.Error.Errors.{Only};
 ghost use Rattle.combine_base.specs.Error.Items.{Unexpected as SaysUnexpected, shown, NoText};
@@ -10,9 +10,9 @@ use combine_base::stream::{Kind, Positioned, Stream, StreamOnce};
 use std::alloc::AllocError;
 use std::marker::PhantomData;
 
-/// The parser of [`unexpected`](crate::unexpected::unexpected) and [`unexpected_any`](crate::unexpected::unexpected_any), with the value type `V`.
+/// The parser of [`unexpected`](crate::unexpected::unexpected) and of [`unexpected_any`](crate::unexpected::unexpected_any), whose value would be a `V`.
 ///
-/// `I` is an `Info`; in combine it is any type that converts into one.
+/// `I` is an `Info`, in the crate what is turned into one.
 #[derive(Drop)]
 pub struct Unexpected<Input, V, I> {
     pub(super) info: I,
@@ -54,7 +54,7 @@ impl<Input: Stream, V: Drop> Parser<Input>
         ParseResult::PeekErr(Tracked::from(input.new_error(Kind::Refused, input.position())))
     }
 
-    /// Adds the item as unexpected.
+    /// Adds that the item was not expected.
     #[inline]
     fn add_error(&mut self, error: &mut Tracked<Input::Error>) {
         error.error.add_unexpected(&self.info);

@@ -1,4 +1,4 @@
-//! The parser that changes another's value, or refuses it.
+//! A parser whose value is changed, or refused.
 ghost use Rattle.std.specs.Prelude.{◌≡◌};
 ghost use Rattle.combine_base.specs.Parser.GivenValues.{GivesOnly};
 ghost use Rattle.combine_function.specs.Changes.{ChangesOne, changed_meaning, changed_is_meaning, changed_means_one, spares};
@@ -10,38 +10,38 @@ use combine_base::refusal::peeked;
 use combine_base::stream::{Positioned, Stream, StreamOnce};
 use std::marker::PhantomData;
 
-/// A change of a value, which may refuse it. Our own.
+/// How a value is changed, or refused. Our own.
 ///
-/// combine writes each of its parsers separately.
+/// The crate writes each of its parsers by itself.
 pub trait ValueChange<Input: Stream, A> {
     ghost use Rattle.std.specs.Prelude.{◌≡◌, ℕ};
     ghost use Rattle.combine_base.specs.Stream.Calls.{Passes};
     ghost use Rattle.combine_function.specs.Changes.{Changes};
 
-    /// The type of the changed value.
+    /// What the value is changed into.
     type Output: Drop;
 
-    /// Precondition of a call on a value.
+    /// What a call with that value needs.
     ghost callable: { Self → A → Type 0 };
 
-    /// The changed values that a value may give, if the parser left the stream at this position.
+    /// What a value may be changed into, where the parser left the stream at that position.
     ghost gives: { Self → Input.Position → A → Self.Output → Type 0 };
 
-    /// Whether the value may be refused.
+    /// The value may be refused.
     ghost denies: { Self → A → Type 0 };
 
-    /// Whether the change of the value may run out of memory.
+    /// The value may find no memory.
     ghost starves: { Self → A → Type 0 };
 
-    /// The errors that a refusal of the value may have, if the parser began at this position.
+    /// What error a refusal of the value may have, where the parser began at that position.
     ghost says: { Self → Input.Position → A → Input.Error → Type 0 };
 
-    /// The count of a parser with this change, by the count of its part.
+    /// How many parsers a parser that makes this change counts as, by the count of its part.
     ghost counted: { ℕ → ℕ };
 
-    /// Returns the changed value, or the error of a refusal or of a fault, and leaves the stream in place.
+    /// Returns the value changed, or the error of a refusal or of a fault; the stream is left in place.
     ///
-    /// `began` is the position where the parser began.
+    /// The parser began at that position.
     fn change(
         &self,
         value: A,
@@ -54,12 +54,12 @@ pub trait ValueChange<Input: Stream, A> {
         ensures failures { Input.failures input.new ≡ Input.failures input.old }
         ensures changes { Changes Input.Error.observers (gives self.now (Input.view input.old).position value) (denies self.now value) (starves self.now value) (says self.now began value) result };
 
-    /// Returns the count of a parser with this change, by the count of its part.
+    /// Returns how many parsers a parser that makes this change counts as, by the count of its part.
     fn count(part: ErrorOffset) -> ErrorOffset
         ensures { result.0 ≡ counted part.0 };
 }
 
-/// The parser of a part whose value is changed into a `B`, or refused; the state is that of the part.
+/// As its part, the value changed into a `B`, or refused; the state is that of the part.
 #[derive(Drop)]
 #[derive_where(Clone, Copy; P, C)]
 pub struct Changed<P, C, B> {
@@ -69,7 +69,7 @@ pub struct Changed<P, C, B> {
 }
 
 impl<P, C, B> Changed<P, C, B> {
-    /// Makes the parser of a part and a change.
+    /// Returns the parser of this part and this change.
     #[inline]
     pub fn new(part: P, change: C) -> Self
         ensures { result ≡ changed_of part change }
@@ -129,7 +129,7 @@ impl<Input: Stream, P: Parser<Input>, B: Drop, C: ValueChange<Input, P::Output, 
         }
     }
 
-    /// Adds the items of the parser whose value is changed.
+    /// Adds what the parser adds whose value is changed.
     #[inline]
     fn add_error(&mut self, error: &mut Tracked<Input::Error>) {
         self.part.add_error(error);

@@ -1,4 +1,4 @@
-//! The changes of `flat_map`, `and_then`, `map_input` and `from_str`.
+//! How functions change values, or refuse them.
 ghost use Rattle.std.specs.Prelude.{◌≡◌, ◌⊎◌, Result, Ok, Err};
 ghost use Rattle.std.specs.Str.{IsUtf8};
 ghost use Rattle.combine_base.specs.declared.stream.Kind.TheVariants as kinds;
@@ -12,7 +12,7 @@ use combine_base::stream::{Kind, Stream, StreamOnce};
 use std::marker::PhantomData;
 use std::str::FromStr;
 
-/// A function that returns a value, or the stream's error with which the value is refused.
+/// A function that returns a value, or the error of the stream that the value is refused with.
 #[derive(Clone, Copy, Drop)]
 pub struct FlatMapFn<F>(pub(super) F);
 
@@ -54,7 +54,7 @@ impl<Input: Stream, A, B: Drop, F: Function<A, Output = Result<B, Input::Error>>
     }
 }
 
-/// A function that returns a value, or an error that becomes the item of the refusal.
+/// A function that returns a value, or what the error says that the value is refused with.
 #[derive(Clone, Copy, Drop)]
 pub struct AndThenFn<F>(pub(super) F);
 
@@ -109,7 +109,7 @@ where
     }
 }
 
-/// Returns the kind of the refusal, or fault, for an error of this kind.
+/// Returns the kind with which a value is refused for an error of that kind.
 #[inline]
 fn value_kind(kind: Kind) -> Kind
     ensures { result ≡ value_kind kind }
@@ -120,7 +120,7 @@ fn value_kind(kind: Kind) -> Kind
     }
 }
 
-/// Returns the error of the refusal: a refusal or out of memory as it is, an end joined with a refusal, and for another fault a new refusal.
+/// Returns the error with which a value is refused for that error: a refusal and out of memory as they are, an end joined with a refusal, and for another fault a refusal alone.
 #[inline]
 fn refused_with<Input: Stream>(
     why: Input::Error,
@@ -173,7 +173,7 @@ impl<Input: Stream, A, B: Drop, F: MutFunction<(A,), Input, Output = B>> ValueCh
     }
 }
 
-/// Parses the value's text as a `T`.
+/// The text of the value, read as a `T`.
 #[derive(Drop)]
 #[derive_where(Clone, Copy)]
 pub struct FromStrFn<T>(pub(super) PhantomData<T>);

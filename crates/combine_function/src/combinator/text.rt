@@ -4,9 +4,9 @@ ghost use Rattle.std.specs.Prelude.{◌≡◌, MatchOption};
 use std::str;
 use std::string::String;
 
-/// A type that holds bytes, perhaps of a text.
+/// What holds the bytes of a text, perhaps.
 ///
-/// Callers may implement it; combine's is sealed.
+/// It is open to callers, where the crate's is sealed.
 pub trait StrLike {
     ghost use Rattle.std.specs.Prelude.{◌≡◌, ℕ, List, MatchOption};
     ghost use Rattle.std.specs.Str.{IsUtf8};
@@ -14,7 +14,7 @@ pub trait StrLike {
     /// The bytes.
     ghost bytes: { Self → List ℕ };
 
-    /// Returns the text, or `None` if the bytes aren't UTF-8.
+    /// Returns the text; `None` where the bytes aren't UTF-8.
     fn from_utf8(&self) -> Option<&str>
         ensures { MatchOption result (IsUtf8 (bytes self.now) → ⊥) (λ text. text.now ≡ bytes self.now) };
 }

@@ -1,4 +1,4 @@
-//! The types of the parsers that the functions of `function` return.
+//! The parsers that the functions of `function` return.
 ghost use Rattle.std.specs.Prelude.{◌≡◌, IfOk, IfErr};
 ghost use Rattle.combine_base.specs.Error.Results.{from_standard};
 ghost use Rattle.combine_base.specs.Parser.Meaning.{IsSingle};
@@ -10,30 +10,30 @@ use combine_base::parser::{Outputs, ParseMode, Parser};
 use combine_base::stream::{Kind, Positioned, ResetStream, Stream, StreamOnce, needs_more};
 use std::marker::PhantomData;
 
-/// A function that is called as a parser. Our own.
+/// What is called as a parser. Our own.
 pub trait Call<Input: Stream> {
     ghost use Rattle.std.specs.Prelude.{◌≡◌, IfErr, IfOk};
     ghost use Rattle.combine_base.specs.declared.error.result.ParseResult.{ParseResult};
 
-    /// The type of the value.
+    /// The value of an acceptance.
     type Value: Drop;
 
     ghost callable: { Self → Type 0 };
 
-    /// The results that a call may have for a stream, and the stream that it leaves.
+    /// What a call may return for a stream, which it then leaves so.
     ghost answers: { Self → Input → ParseResult Self.Value Input.Error → Input → Type 0 };
 
-    /// Whether no call runs out of memory before the function runs.
+    /// No call finds no memory for what the function is given.
     ghost infallible: { Self → Type 0 };
 
-    /// Calls the function, or returns `NoMemory` and leaves the stream as it is.
+    /// Calls it, or returns that what it is to be given found no memory, and the stream is as it was.
     fn call(&self, input: &mut Input) -> Result<ParseResult<Self::Value, Input::Error>, NoMemory>
         requires { callable self.now }
         ensures answers { IfOk result (λ answer. answers self.now input.old answer input.new) }
         ensures memory { IfErr result (λ _. (infallible self.now → ⊥) × (input.new ≡ input.old)) };
 }
 
-/// There was no memory for an argument of the function.
+/// What a function is to be given found no memory.
 #[derive(Clone, Copy, Drop)]
 pub struct NoMemory;
 
@@ -41,7 +41,7 @@ pub struct NoMemory;
 #[derive(Clone, Copy, Drop)]
 pub struct WithoutEnv<F>(pub(super) F);
 
-/// A function of an environment, which is cloned for each call, and of the stream.
+/// A function of what it needs, and of the stream.
 #[derive(Clone, Copy, Drop)]
 pub struct WithEnv<E, F> {
     pub(super) env: E,
@@ -101,7 +101,7 @@ pub struct Called<Input, C> {
 /// The parser of [`parser`](crate::function::parser).
 pub type FnParser<Input, F> = Called<Input, WithoutEnv<F>>;
 
-/// The parser of [`env_parser`](crate::function::env_parser). `F` is the type of the function; combine has the type of the value there.
+/// The parser of [`env_parser`](crate::function::env_parser), with the type of the function as `F`, where the crate has that of the value.
 pub type EnvParser<E, Input, F> = Called<Input, WithEnv<E, F>>;
 
 impl<Input: Stream, C: Call<Input>> Outputs<Input> for Called<Input, C> {

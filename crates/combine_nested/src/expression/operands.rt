@@ -1,4 +1,4 @@
-//! An unfinished expression: the operators that wait for operands, and the operand that they wait for.
+//! An expression that isn't over: the operators that wait for operands, and the operand that they wait for.
 ghost use Rattle.std.specs.Prelude.{◌≡◌, ◌<◌, [], ◌∷◌, ◌++◌, MatchResult, None, length, reverse, slice_get, vec_items};
 ghost use Rattle.combine_nested.specs.Levels.{IsExpression, Infix, Operand, Postfix, Prefix};
 ghost use Rattle.combine_nested.specs.Shapes.{fits_behind, fits_in_front, sides_of};
@@ -7,13 +7,13 @@ ghost use Rattle.combine_nested.specs.OpenExpressions.{AddsThing, Completes, End
 use super::{Fixity, Operator, OperatorError};
 use std::alloc::{AllocError, Global};
 
-/// The message of an operator that doesn't fit in its place.
+/// The message of an operator that doesn't fit where it stands.
 const OPERATOR: &str = "operator cannot stand here";
 
 /// The message of an operand after an operand.
 const OPERAND: &str = "operand cannot stand here";
 
-/// The message of an end in place of an operand.
+/// The message of an end where an operand is awaited.
 const AWAITED: &str = "operand expected";
 
 /// An operator that waits for the operand on its right.
@@ -31,7 +31,7 @@ pub struct Pending<O, V> {
 #[derive(Drop)]
 pub struct Held<V> {
     pub(super) value: V,
-    /// The level of its outermost operator, or the number of levels if it has none.
+    /// The level of its outermost operator; that after the last one where it has none.
     pub(super) level: usize,
 }
 
@@ -42,28 +42,28 @@ pub(super) struct Lowest {
     right: usize,
 }
 
-/// The reason why an expression doesn't go on.
+/// Why an expression doesn't go on.
 #[derive(Drop)]
 pub(super) enum Fault {
-    /// Out of memory.
+    /// No memory is left.
     Memory,
-    /// The next item doesn't fit, with this message.
+    /// What follows doesn't fit, which this message says.
     Misfit(&'static str),
     /// An operator refuses, with this message.
     Refused(&'static str),
 }
 
-/// An unfinished expression.
+/// An expression that isn't over.
 #[derive(Drop)]
 pub struct Operands<O, V, const N: usize> {
     pub(super) levels: [Fixity; N],
-    /// The waiting operators, the innermost last.
+    /// What waits, the innermost last.
     pub(super) pending: Vec<Pending<O, V>>,
-    /// The right operand of the innermost operator, if it was read.
+    /// The operand on the right of the innermost, where it was read.
     pub(super) held: Option<Held<V>>,
 }
 
-/// Returns the number of levels: the level of an operand without an outermost operator.
+/// Returns how many levels there are: the level of an operand in which no operator stands outermost.
 fn number_of(levels: &[Fixity]) -> usize
     ensures { result ≡ length levels.now }
 {
@@ -77,7 +77,7 @@ fn fixity_at(levels: &[Fixity], level: usize) -> Option<Fixity>
     levels.get(level).copied()
 }
 
-/// Returns whether `level` is of prefix operators and fits where `asked` is the lowest level.
+/// Returns whether an operator of a level is a prefix operator that fits where such a level is asked for.
 fn is_prefix(levels: &[Fixity], asked: usize, level: usize) -> bool
     ensures { result ≡ fits_in_front (slice_get levels.now level) asked level }
 {
@@ -90,7 +90,7 @@ fn is_prefix(levels: &[Fixity], asked: usize, level: usize) -> bool
     }
 }
 
-/// Returns whether `level` is of postfix operators and fits after an operand of level `held`.
+/// Returns whether an operator of a level is a postfix operator that fits after an operand of such a level.
 fn is_postfix(levels: &[Fixity], held: usize, level: usize) -> bool
     ensures { result ≡ fits_behind (slice_get levels.now level) held level }
 {
@@ -103,7 +103,7 @@ fn is_postfix(levels: &[Fixity], held: usize, level: usize) -> bool
     }
 }
 
-/// Returns the lowest levels of an infix operator's operands, if the operators of the level are infix.
+/// Returns the lowest levels of an infix operator's operands, where the operators of the level are infix.
 fn sides(levels: &[Fixity], level: usize) -> Option<Lowest>
     ensures { result ≡ sides_of level (slice_get levels.now level) }
 {
@@ -134,7 +134,7 @@ fn asked_by<O, V>(pending: &Vec<Pending<O, V>>) -> usize
     }
 }
 
-/// Returns the waiting operators, and one more.
+/// Returns those that wait, and one more.
 fn wait<O: Drop, V: Drop>(
     pending: Vec<Pending<O, V>>,
     waits: Pending<O, V>,
@@ -146,7 +146,7 @@ fn wait<O: Drop, V: Drop>(
     Ok(pending)
 }
 
-/// Returns the value of an operator from its operands.
+/// Returns what an operator makes of its operands.
 fn operate<O: Operator>(
     operator: O,
     left: Option<O::Value>,
@@ -160,7 +160,7 @@ fn operate<O: Operator>(
     }
 }
 
-/// Returns the fault of an expression whose operator has no value.
+/// Returns why an expression doesn't go on whose operator makes no value.
 fn fault_of(error: OperatorError) -> Fault
     ensures { result ≡ fault_of error }
 {
@@ -189,7 +189,7 @@ fn reduce<O: Operator>(
     }
 }
 
-/// Gives the operand to the innermost waiting operator, as long as that requires a level above `level`.
+/// Gives the operand to the innermost of the operators that wait as long as that asks for a higher level.
 fn reduce_above<O: Operator>(
     pending: &mut Vec<Pending<O, O::Value>>,
     held: Held<O::Value>,
@@ -198,7 +198,6 @@ fn reduce_above<O: Operator>(
     ensures { MatchResult result (ReducedAbove O.changes O.joins (vec_items pending.old) (vec_items pending.new) held level) (blames (λ _. ⊥) (λ m. (levels : _) → WaitingRefuses O.refuses_operand O.refuses_operands O.changes O.joins levels (HoldsOperand levels O.changes O.joins (reverse (vec_items pending.old)) held) (λ a. level < a) m)) }
 {
     let mut held = held;
-    // The label names the loop's invariant.
     'innermost: while asked_by(pending) > level {
         let Some(waits) = pending.pop() else {
             return Ok(held);
@@ -208,7 +207,7 @@ fn reduce_above<O: Operator>(
     Ok(held)
 }
 
-/// Gives the operand to each waiting operator, the innermost first.
+/// Gives the operand to each of the operators that wait, the innermost first.
 fn reduce_all<O: Operator>(
     pending: Vec<Pending<O, O::Value>>,
     held: Held<O::Value>,
@@ -217,7 +216,6 @@ fn reduce_all<O: Operator>(
 {
     let mut pending = pending;
     let mut held = held;
-    // The label names the loop's invariant.
     'innermost: while let Some(waits) = pending.pop() {
         held = reduce(waits, held.value)?;
     }
@@ -225,7 +223,7 @@ fn reduce_all<O: Operator>(
 }
 
 impl<O, V, const N: usize> Operands<O, V, N> {
-    /// Returns an expression before its first item.
+    /// Returns an expression of which nothing was read.
     pub(super) fn new(alloc: Global, levels: [Fixity; N]) -> Operands<O, V, N>
         ensures levels { result.levels ≡ levels.entry }
         ensures pending { vec_items result.pending ≡ [] }
@@ -240,7 +238,7 @@ impl<O, V, const N: usize> Operands<O, V, N> {
 }
 
 impl<O: Operator, const N: usize> Operands<O, O::Value, N> {
-    /// Reads the awaited operand.
+    /// Reads the operand that is awaited.
     pub(super) fn operand(self, value: O::Value) -> Result<Self, Fault>
         ensures { MatchResult result (λ r. AddsThing O.changes O.joins self r (Operand value)) (blames (Misfits O.changes O.joins self (Operand value)) (refuses_before O.refuses_operand O.refuses_operands O.changes O.joins self (Operand value))) }
     {
@@ -260,7 +258,7 @@ impl<O: Operator, const N: usize> Operands<O, O::Value, N> {
         })
     }
 
-    /// Reads a prefix operator before the awaited operand.
+    /// Reads a prefix operator in front of the operand that is awaited.
     pub(super) fn prefix(self, level: usize, operator: O) -> Result<Self, Fault>
         ensures { MatchResult result (λ r. AddsThing O.changes O.joins self r (Prefix level operator)) (blames (Misfits O.changes O.joins self (Prefix level operator)) (refuses_before O.refuses_operand O.refuses_operands O.changes O.joins self (Prefix level operator))) }
     {
@@ -356,7 +354,7 @@ impl<O: Operator, const N: usize> Operands<O, O::Value, N> {
         })
     }
 
-    /// Returns the value, if nothing follows.
+    /// Returns the value, where nothing more follows.
     pub(super) fn close(self) -> Result<O::Value, Fault>
         ensures { MatchResult result (Completes O.changes O.joins self) (blames (EndsEarly O.changes O.joins self) (refuses_at_end O.refuses_operand O.refuses_operands O.changes O.joins self)) }
     {

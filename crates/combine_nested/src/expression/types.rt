@@ -1,4 +1,4 @@
-//! The parts of the parser of `expression`.
+//! What an expression's parser is made of.
 ghost use Rattle.std.specs.Prelude.{◌≡◌, MatchResult};
 ghost use Rattle.combine_nested.specs.ExpressionParts.{BeginsPart, MakesOutermost, closed_as, part_joins, part_takes, stayed_as};
 
@@ -14,10 +14,10 @@ use std::marker::PhantomData;
 /// The parser of [`expression`](crate::expression::expression).
 pub type Expression<O, V, A, B, C, const N: usize> = Nested<Outermost<O, V, N>, Steps<A, B, C>>;
 
-/// The steps of an expression: before an operand, and after one in brackets and outside of them.
+/// The steps of an expression: what stands where an operand is awaited, and after one, in brackets and outside of them.
 pub type Steps<A, B, C> = IfElse<Awaits, A, IfElse<InBrackets, B, C>>;
 
-/// An unfinished expression, or the part of one that is in brackets.
+/// An expression that isn't over, or the part of one that is in brackets.
 #[derive(Drop)]
 pub struct Part<O, V, const N: usize> {
     alloc: Global,
@@ -36,7 +36,7 @@ impl<O: Drop, V: Drop, const N: usize> Part<O, V, N> {
         }
     }
 
-    /// Returns the frame's result for these operands, or for this fault.
+    /// Returns what comes of a part that became that.
     fn stay(
         alloc: Global,
         in_brackets: bool,
@@ -56,7 +56,7 @@ impl<O: Drop, V: Drop, const N: usize> Part<O, V, N> {
         }
     }
 
-    /// Returns the frame's result for this value of the closed part, or for this fault.
+    /// Returns what comes of a part that was closed so.
     fn close(became: Result<V, Fault>) -> Result<Next<Part<O, V, N>, V>, AllocError>
         ensures { MatchResult result (closed_as became) (λ _. Unit {0}) }
     {
@@ -126,7 +126,7 @@ impl<V: Drop, O: Operator<Value = V>, const N: usize> Frame for Part<O, V, N> {
     }
 }
 
-/// Makes the outermost part of an expression.
+/// What makes the outermost part of an expression.
 #[derive(Drop)]
 #[derive_where(Clone, Copy)]
 pub struct Outermost<O, V, const N: usize> {

@@ -1,10 +1,10 @@
-//! Functions of a frame that return the parser of the next step.
+//! What returns the parser of the next step.
 ghost use Rattle.std.specs.Prelude.{◌≡◌};
 
 use combine_base::function::{Maker, RefFunction};
 use combine_choice::variants::Either;
 
-/// A function that returns the same parser for every frame.
+/// The same parser at each step.
 #[derive(Clone, Copy, Drop)]
 pub struct Always<P>(pub(super) P);
 
@@ -19,7 +19,7 @@ impl<F, P: Copy> RefFunction<F> for Always<P> {
     }
 }
 
-/// A function that returns the parser that a maker makes, for every frame.
+/// The parser that a function makes at each step.
 #[derive(Clone, Copy, Drop)]
 pub struct AlwaysWith<M>(pub(super) M);
 
@@ -36,7 +36,7 @@ impl<F, M: Maker> RefFunction<F> for AlwaysWith<M> {
     }
 }
 
-/// A function that returns the parser of one of two functions, by a test of the frame.
+/// One of two, by a test of the frame.
 #[derive(Clone, Copy, Drop)]
 pub struct IfElse<C, A, B>(pub(super) C, pub(super) A, pub(super) B);
 

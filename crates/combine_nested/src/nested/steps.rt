@@ -1,4 +1,4 @@
-//! A run of one step's parser, and the change of the frames after it.
+//! One step's parser, run, and what becomes of the frames.
 ghost use Rattle.std.specs.Prelude.{◌≡◌, ◌||◌, true, MatchResult, reverse, vec_items};
 ghost use Rattle.combine_nested.specs.NestedSteps.{frames_around, begins_steps, settles_frames};
 ghost use Rattle.combine_nested.specs.StepCalls.{CalledStep, Denies, TakesItem, ends_of, step_item_did};
@@ -10,20 +10,20 @@ use combine_base::refusal::{peeked, refusal_saying};
 use combine_base::stream::{Kind, Stream, has_taken, needs_more};
 use std::alloc::AllocError;
 
-/// The open frames: the innermost, and those around it, the outermost first.
+/// The frames that are open: the innermost, and those round it, the outermost first.
 #[derive(Drop)]
 pub struct Frames<F> {
     pub(super) top: F,
     pub(super) outer: Vec<F>,
 }
 
-/// The kept state of a step whose parser is running.
+/// What is kept of a step whose parser runs.
 #[derive(Drop)]
 pub struct RunningStep<F, N, U> {
     pub(super) frames: Frames<F>,
-    /// Whether a step before was committed.
+    /// A step before was committed.
     pub(super) committed: bool,
-    /// Whether this step took a token before the cut.
+    /// This step took a token before the cut.
     pub(super) took_before: bool,
     pub(super) parser: N,
     pub(super) state: U,
@@ -32,9 +32,9 @@ pub struct RunningStep<F, N, U> {
 /// The kept state of `nested`.
 #[derive(Drop)]
 pub enum NestedState<F, N, U> {
-    /// No step has begun.
+    /// No step was asked for.
     Start,
-    /// A step's parser is running.
+    /// A step's parser runs.
     Running(RunningStep<F, N, U>),
 }
 
@@ -47,28 +47,28 @@ impl<F, N, U> Default for NestedState<F, N, U> {
     }
 }
 
-/// The effect of a step.
+/// What a step did.
 pub(super) enum Did<F, V, E> {
-    /// The next step follows, over these frames, with whether a step was committed.
+    /// The next step comes, over these frames, and whether a step was committed.
     Goes(Frames<F>, bool),
-    /// The run ends with this result.
+    /// This is the result.
     Stops(ParseResult<V, E>),
 }
 
-/// The frames after a step.
+/// What became of the frames.
 #[derive(Drop)]
 pub(super) enum Settled<F, V> {
-    /// These frames are open.
+    /// The frames that are open.
     Open(Frames<F>),
-    /// The outermost frame is closed.
+    /// The outermost is closed.
     Closed(V),
     /// A frame refuses.
     Denied(&'static str),
-    /// There is a frame too many.
+    /// A frame too many was opened.
     TooDeep,
 }
 
-/// Applies the innermost frame's result, and gives the value of each closed frame to the one around it.
+/// Settles the frames round one of which that came: the value of each that is closed is given to the one round it.
 pub(super) fn settle<F: Frame>(
     depth: usize,
     outer: Vec<F>,
@@ -78,7 +78,6 @@ pub(super) fn settle<F: Frame>(
 {
     let mut outer = outer;
     let mut next = next;
-    // The label names the loop's invariant.
     'frames: loop {
         match next {
             Next::Stay(top) => return Ok(Settled::Open(Frames { top, outer })),
@@ -100,7 +99,7 @@ pub(super) fn settle<F: Frame>(
     }
 }
 
-/// Gives an item to the innermost frame.
+/// Lets the innermost frame take an item.
 fn take_item<F: Frame>(
     depth: usize,
     frames: Frames<F>,
@@ -119,7 +118,7 @@ fn one_of(first: bool, second: bool) -> bool
     first || second
 }
 
-/// Refuses with a frame's message, committed if a step was.
+/// Refuses as a frame does: committed where a step was.
 fn denied<V, Input: Stream>(
     input: &Input,
     position: Input::Position,
@@ -135,7 +134,7 @@ fn denied<V, Input: Stream>(
     peeked(Tracked::from(error))
 }
 
-/// Returns the effect of a step whose parser was accepted with `item`.
+/// Returns what a step did whose parser was accepted with that item.
 fn finish_step<Input: Stream, F: Frame>(
     input: &Input,
     position: Input::Position,
@@ -168,7 +167,7 @@ fn finish_step<Input: Stream, F: Frame>(
 
 /// Runs a step's parser from its state.
 ///
-/// On need of more the step is kept in `state`, which is a default one before.
+/// Need of more is kept in `state`, which is a default one.
 pub(super) fn run_step<
     Input: Stream,
     F: Frame,

@@ -69,7 +69,6 @@ impl<
                 Did::Goes(Frames { top, outer }, false)
             }
         };
-        // The label names the loop's invariant.
         'steps: loop {
             let (frames, committed) = match next {
                 Did::Goes(frames, committed) => (frames, committed),
@@ -90,7 +89,7 @@ impl<
     #[inline]
     fn add_error(&mut self, error: &mut Tracked<Input::Error>) {}
 
-    /// Counts as one parser, whatever the number of steps.
+    /// Counts as one parser, however many steps there are.
     #[inline]
     fn parser_count(&self) -> ErrorOffset {
         ErrorOffset(1)

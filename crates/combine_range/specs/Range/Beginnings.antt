@@ -1,4 +1,4 @@
--- the longest beginning under a predicate, as a range, with d items skipped first; `some` is true if it may not be empty
+-- the longest beginning under a test, as a range, where d items are passed over first; some is true where it may not be empty
 use Rattle.std.specs.Prelude.{ℕ, suc, ◌+◌, ◌<◌, ◌≤◌, ◌≡◌, List, [], ◌∷◌, ◌++◌, Bool, true, false, take, drop, length, refl, nat_lt}
 use Rattle.std.proofs.Common.{arith, ap, sym, subst, ◌∙◌, ltb-false, length-drop}
 use Rattle.std.proofs.lemmas.List.{take-append-le, drop-append-le, take_all, drop_at, length-append}
@@ -19,7 +19,7 @@ module _ {T : Type 0} (f : T → Bool → Type 0) where
   longest_append (t ∷ us) x n p q = subst (Longest f (t ∷ (us ++ x))) {x = suc (length us + n)} {y = length (t ∷ us) + n} (omega arith) (p.0, longest_append us x n p.1 q)
 
 module _ {T : Type 0} (size : T → ℕ) (f : T → Bool → Type 0) where
-  -- d items are skipped, and the longest beginning follows: k tokens in all
+  -- d items are passed over, and the longest beginning follows: k tokens in all
   pub record ReachesLongest (d : ℕ) (us : List T) (k : ℕ) : Type 0 where
     pub before : ℕ
     pub more : ℕ
@@ -54,7 +54,7 @@ module _ {T : Type 0} (size : T → ℕ) (f : T → Bool → Type 0) where
     end_place : (us x : List T) → IsItemPlace size (us ++ x) (size_of size us) (length us)
     end_place us x = record { within = omega (arith, length-append us x); items = ap (size_of size) (take-append-le (length us) us x (omega arith) ∙ take_all (length us) us (omega arith)) }
 
-    -- a beginning reached from the end of a list that is all reached is reached from before
+    -- what reaches on from the end of a list that is all reached, reaches on from before
     reaches_on : (d : ℕ) (us x : List T) (k : ℕ) → ReachesLongest d us (length us) → ReachesLongest (size_of size us) (us ++ x) k → ReachesLongest d (us ++ x) k
     reaches_on d us x k p q =
         let e = one_place size filled (us ++ x) (size_of size us) q.before (length us) q.place (end_place us x) in
@@ -77,7 +77,7 @@ module _ {P T R : Type 0} (size : T → ℕ) (spells : R → List T → Type 0) 
     pub enough : some ≡ true → 0 < k
 
   pub data UnfitBeginning (d : ℕ) (v : View P T) : Type 0 where
-    -- no token passes
+    -- nothing passes
     Empty : ReachesLongest size f d v.unread 0 → (v.is_open ≡ true → 0 < length v.unread) → some ≡ true → UnfitBeginning d v
     -- the kept distance ends inside a token: no call keeps such a one
     Split : EndsInsideToken size v.unread d → UnfitBeginning d v
@@ -144,7 +144,7 @@ module _ {P T R : Type 0} (size : T → ℕ) (spells : R → List T → Type 0) 
     pub beginning_is_single : IsPredicate f → (d : ℕ) → IsSingle (beginning d)
     beginning_is_single h d = record { one = one_shape h d }
 
-    -- an outcome after the end of all that was read is an outcome from before
+    -- what goes on from the end of all that was read goes on from before
     pub beginning_resumes : (d e : ℕ) (v : View P T) → WaitsInBeginning d v → e ≡ size_of size v.unread → (x : List T) (b : Bool) (o : Outcome R) → beginning e (extended x b v) o → beginning d (extended x b v) o
     beginning_resumes d e v w i x b o p = going o (rw i at p)
       where

@@ -1,4 +1,4 @@
--- the first n items as a range
+-- the first so many items as a range
 use Rattle.std.specs.Prelude.{ℕ, ◌<◌, ◌≡◌, List, Bool, true, false, take, nat_lt, refl}
 use Rattle.std.proofs.Common.{arith, sym, subst, ltb-false}
 use Rattle.std.proofs.lemmas.List.{take-append-le}
@@ -30,7 +30,7 @@ module _ {P T R : Type 0} (size : T → ℕ) (spells : R → List T → Type 0) 
   taking n v (Refused c) = UnfitLength n v × (c ≡ false)
   taking n v Undecided = WaitsForLength n v
 
-  -- the first items are no wanted range: they are no range of that length, or another one
+  -- as many first items as are wanted, and then whether they are those: always accepted committed
   pub data Differs (w : Wanted R) (v : View P T) : Type 0 where
     No : UnfitLength w.items v → Differs w v
     Other : (q : R) (k : ℕ) → IsFirstRange w.items v q k → w.test q ≡ false → Differs w v

@@ -1,4 +1,4 @@
--- the tokens that a parser takes, as a range beside its value; the state is the distance read, in items, and the part's state
+-- what a parser takes, as a range beside its value; the state is the distance read, in items, and the part's state
 use Rattle.std.specs.Prelude.{ℕ, ◌+◌, ◌<◌, ◌≤◌, ◌≡◌, ◌++◌, Bool, true, false, nat_lt, List, length, take, refl, ◌↔◌}
 use Rattle.std.proofs.Common.{arith, ap, sym, subst, ◌∙◌, length-drop, ltb-false}
 use Rattle.std.proofs.lemmas.List.{take-append-le}
@@ -35,7 +35,7 @@ module _ {P T : Type 0} (size : T → ℕ) (step : P → T → P) where
   never_lost d l i v e (Short p) = omega arith
   never_lost d l i v e (Deeper k p q) = i _ q
 
--- a result with a value beside its own
+-- an answer with a value beside its own
 abbrev pub beside_value : {R V E : Type 0} → V → ParseResult R E → ParseResult (R × V) E
 beside_value value (CommitOk q) = CommitOk (q, value)
 beside_value value (PeekOk q) = PeekOk (q, value)
@@ -67,7 +67,7 @@ module _ {P T V R : Type 0} (size : T → ℕ) (spells : R → List T → Type 0
     pub meant : r (advanced step before v) inner
     pub is : sliced v.unread before inner o
 
-  -- d items are skipped first; if there are fewer there is no outcome
+  -- d items are passed over first; where there are fewer there is no outcome
   pub data Recognizes (d : ℕ) (r : Reading P T V) (v : View P T) (o : Outcome (R × V)) : Type 0 where
     On : (goes : RecognizesOn d r v o) → Recognizes d r v o
     -- the kept distance ends inside a token: no call keeps such a one
@@ -210,6 +210,6 @@ module _ {P T V R S E : Type 0} (errors : Observers T R P E) (size : T → ℕ) 
     refuses_from = λ s. resumed_same errors size step (m.refuses_from s.part) (m'.refuses_from s.part) (h.refuses_from s.part) s.distance;
   }
 
--- the part is accepted with n tokens, and the range is exactly these tokens; committed exactly if there are some
+-- the part is accepted with so many tokens, and the range is these very tokens; committed exactly if there are some
 abbrev pub TakesExactly : {P T V R : Type 0} → (R → List T → Type 0) → Reading P T V → View P T → R → ℕ → Bool → Type 0
 TakesExactly {P} {T} {V} {R} spells r v range n committed = (value : V) × (own : Bool) × r v (Accepted value n own) × spells range (take n v.unread) × (committed ≡ nat_lt 0 n)

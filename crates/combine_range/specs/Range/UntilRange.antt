@@ -1,4 +1,4 @@
--- the tokens before the first occurrence of a range, with d items skipped first
+-- what stands before the first occurrence of a range, where d items are passed over first
 use Rattle.std.specs.Prelude.{ℕ, ◌<◌, ◌≤◌, ◌≡◌, List, ◌++◌, Bool, true, false, take, drop, nat_lt, refl}
 use Rattle.std.proofs.Common.{arith, sym, subst, ltb-false, inl, ⊎_elim}
 use Rattle.std.proofs.lemmas.List.{take-append-le}
@@ -24,7 +24,7 @@ module _ {P T R : Type 0} (size : T → ℕ) (spells : R → List T → Type 0) 
     pub nowhere : NoneTested size spells w from v.unread
 
   pub data UnfitUntil (d : ℕ) (v : View P T) : Type 0 where
-    -- none, and the list has ended
+    -- none, and no more to come
     Absent : NoneAhead d v → v.is_open ≡ false → UnfitUntil d v
     -- the kept distance ends inside a token: no call keeps such a one
     Split : EndsInsideToken size v.unread d → UnfitUntil d v
@@ -94,7 +94,7 @@ module _ {P T R : Type 0} (size : T → ℕ) (spells : R → List T → Type 0) 
     pub until_range_is_single : Fair spells w.test → (d : ℕ) → IsSingle (until_range d)
     until_range_is_single fair d = record { one = one_shape fair d }
 
-    -- at each place between two distances the test failed
+    -- at each place between two distances another range was seen
     pub record FailsBetween (d e : ℕ) (v : View P T) : Type 0 where
       pub from : ℕ
       pub to : ℕ
@@ -103,7 +103,7 @@ module _ {P T R : Type 0} (size : T → ℕ) (spells : R → List T → Type 0) 
       pub rises : from ≤ to
       pub fails : (j : ℕ) → from ≤ j → j < to → FailsTest size spells w (drop j v.unread)
 
-    -- an outcome after the second distance is an outcome after the first
+    -- what goes on from the second goes on from the first
     pub until_resumes : (d e : ℕ) (v : View P T) → FailsBetween d e v → (x : List T) (b : Bool) (o : Outcome R) → until_range e (extended x b v) o → until_range d (extended x b v) o
     until_resumes d e v z x b o p = going o p
       where
@@ -116,7 +116,7 @@ module _ {P T R : Type 0} (size : T → ℕ) (spells : R → List T → Type 0) 
         passed : (j : ℕ) → z.from ≤ j → j < z.to → FailsTest size spells w (drop j (v.unread ++ x))
         passed j l h = fails_test_later size spells w filled v.unread x j (let a = z.place.within in omega arith) (z.fails j l h)
 
-        -- before or after the second place
+        -- before or behind the second place
         at : {A : Type 0} → (j : ℕ) → (j < z.to → A) → (z.to ≤ j → A) → A
         at j g h = ⊎_elim g h (cases_lt j z.to)
 

@@ -1,4 +1,4 @@
-//! The two parts of `length_prefix`: a value as a length, and the parser for a length.
+//! The two parts: a value as a length, and the parser for a length.
 ghost use Rattle.std.specs.Prelude.{◌≡◌, Ok};
 ghost use Rattle.combine_function.specs.Changes.{MadeSaying};
 ghost use Rattle.combine_range.specs.Prefixes.{FitsNone, out_of_range};
@@ -13,7 +13,7 @@ use combine_function::combinator::ValueChange;
 use combine_sequence::sequence::types::NextParser;
 use std::marker::PhantomData;
 
-/// Converts the value to a `usize`, and refuses one that is none. Our own.
+/// The value as a `usize`; one that is none is refused. Our own.
 #[derive(Clone, Copy, Drop)]
 pub struct AsLength;
 
@@ -59,7 +59,7 @@ where
     }
 }
 
-/// Makes the parser of as many items as a length. Our own.
+/// The function from a length to the parser of that many items. Our own.
 #[derive(Drop)]
 #[derive_where(Clone, Copy)]
 pub struct Taking<Input>(pub(super) PhantomData<Input>);

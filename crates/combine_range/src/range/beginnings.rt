@@ -1,4 +1,4 @@
-//! `take_while` and `take_while1`, the longest beginning for whose tokens a predicate holds.
+//! Longest beginnings under a test.
 ghost use Rattle.std.specs.Prelude.{◌≡◌, true, false};
 ghost use Rattle.combine_base.specs.Parser.AnswersCalls.{AnswersCall};
 ghost use Rattle.combine_base.specs.Parser.Reasons.{ReasonedCall};
@@ -32,7 +32,7 @@ pub struct TakeWhile1<Input, F> {
     pub(super) reads: PhantomData<Input>,
 }
 
-// Makes one call. An empty beginning is refused if `some` is true.
+// Makes one call. An empty beginning is refused where `some` is true.
 #[inline(always)]
 fn take_beginning<Input: RangeStream, F: Function<Input::Token, Output = bool>>(
     test: &F,
@@ -60,7 +60,6 @@ where
                 return keep_distance(start, position, input, state);
             }
             if distance > 0 {
-                // The range has the skipped items too.
                 return hand_out(start, position, input);
             }
             if range.len() > 0 {

@@ -1,4 +1,4 @@
-//! `take` and `range`, ranges of a given length.
+//! Ranges of a given length.
 ghost use Rattle.std.specs.Prelude.{◌≡◌};
 ghost use Rattle.combine_base.specs.Error.Errors.{AddsNothing, Only};
 ghost use Rattle.combine_base.specs.Error.Items.{Expected, OfRange};
@@ -23,7 +23,7 @@ pub struct Take<Input> {
 
 /// The parser of [`range`](crate::range::range), with the stream's ranges as `R`.
 ///
-/// combine's has no such parameter.
+/// The crate's has no such parameter.
 #[derive(Drop)]
 pub struct Range<Input, R> {
     pub(super) wanted: R,
@@ -120,7 +120,7 @@ where
         }
     }
 
-    /// Adds the range as expected.
+    /// Adds that the range was expected.
     #[inline]
     fn add_error(&mut self, error: &mut Tracked<Input::Error>) {
         error.error.add_expected(&Info::Range(self.wanted));

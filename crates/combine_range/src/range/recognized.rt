@@ -1,4 +1,4 @@
-//! `recognize` and `recognize_with_value`, the tokens that a parser takes as a range.
+//! What a parser takes, as a range.
 ghost use Rattle.std.specs.Prelude.{◌≡◌, if◌then◌else◌};
 ghost use Rattle.combine_base.specs.Parser.ValueMap.{mapped, mapped_is_meaning, mapped_means_one};
 ghost use Rattle.combine_base.specs.Stream.Calls.{Passes};
@@ -11,7 +11,7 @@ use combine_base::parser::{Outputs, ParseMode, Parser};
 use combine_base::stream::{Positioned, ResetStream, Stream, StreamOnce, needs_more};
 use combine_stream::range::{Range, RangeStream};
 
-/// The state of `recognize` and `recognize_with_value`: the distance that was read, in items, and the state of their part.
+/// What `recognize` and `recognize_with_value` keep while more input is needed: the distance that was read, in items, and the state of their part.
 #[derive(Drop)]
 pub struct RecognizeState<S> {
     distance: usize,
@@ -31,7 +31,7 @@ impl<S: Default> Default for RecognizeState<S> {
 }
 
 impl<S> RecognizeState<S> {
-    /// Takes the kept distance when resuming, else returns 0.
+    /// Hands out the distance that a call begins with: none where it begins afresh.
     #[inline(always)]
     fn begin(&mut self, first: bool) -> usize
         ensures begun { result ≡ (if first then 0 else self.old.distance) }
@@ -117,7 +117,7 @@ where
         }
     }
 
-    /// Adds the items of the part.
+    /// Adds what the parser adds whose tokens are taken.
     #[inline]
     fn add_error(&mut self, error: &mut Tracked<Input::Error>) {
         self.0.add_error(error);
@@ -172,7 +172,7 @@ where
         }
     }
 
-    /// Adds the items of the part.
+    /// Adds what the parser adds whose tokens are taken.
     #[inline]
     fn add_error(&mut self, error: &mut Tracked<Input::Error>) {
         Parser::<Input>::add_error(&mut self.0, error);

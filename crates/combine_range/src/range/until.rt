@@ -1,4 +1,4 @@
-//! `take_until_range`, the tokens before the first occurrence of a range.
+//! What stands before the first occurrence of a range.
 ghost use Rattle.std.specs.Prelude.{◌≡◌};
 ghost use Rattle.combine_base.specs.Error.Errors.{AddsNothing};
 ghost use Rattle.combine_range.specs.KeptDistance.{kept, kept_is_meaning, kept_means_one};
@@ -18,7 +18,7 @@ use std::marker::PhantomData;
 
 /// The parser of [`take_until_range`](crate::range::take_until_range), with the stream's ranges as `R`; its state is the distance that was searched.
 ///
-/// combine's has no parameter `R`.
+/// The crate's has no parameter `R`.
 #[derive(Drop)]
 pub struct TakeUntilRange<Input, R> {
     pub(super) wanted: R,

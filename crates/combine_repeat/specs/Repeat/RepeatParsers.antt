@@ -11,7 +11,7 @@ use Rattle.combine_repeat.specs.declared.bounds.MinToMax.{MinToMax}
 abbrev pub plain_parser : {P : Type 0} → SameParser P → P
 plain_parser p = p.0
 
--- the parser of turns, the parser that it repeats, and its bounds
+-- the parser of turns, which parser it repeats, and how often
 abbrev pub repeat_of : {G P B : Type 0} → G → P → B → Repeat G P B
 repeat_of gather parser bounds = record { gather = gather; turn = record { 0 = parser }; bounds = bounds }
 
@@ -28,7 +28,7 @@ each_of alloc = record { alloc = alloc; collects = record {} }
 abbrev pub between_of : ℕ → ℕ → MinToMax
 between_of least most = record { min = least; max = most }
 
--- the parsers that the constructors of counted repetitions return
+-- what the constructors of counted repetitions build
 abbrev pub count_min_max_of : {F P : Type 0} → Global → ℕ → ℕ → P → Repeat (Each F) P MinToMax
 count_min_max_of alloc least most parser = repeat_of (each_of alloc) parser (between_of least most)
 

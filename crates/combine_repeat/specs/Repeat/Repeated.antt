@@ -21,7 +21,7 @@ abbrev pub no_value_ends : {A : Type 0} → A → Bool
 no_value_ends a = false
 
 module _ {P T R E A V S : Type 0} (step : P → T → P) (errors : Observers T R P E) (b : Bounds) (c : Collecting A V) where
-  -- turns of a parser, within these bounds
+  -- turns of a parser, so many
   abbrev pub repeated : Meaning P T R E A S → Meaning P T R E V (TurnsState V S)
   repeated m = turns_from step errors b no_value_ends c (none_yet c.none) m (from_start m)
 

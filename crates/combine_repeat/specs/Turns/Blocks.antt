@@ -1,4 +1,4 @@
--- turns of a parser: the list is divided into blocks, each exactly the tokens of a turn at its place, up to the first place where a rule stops the turns; and the laws of turns, which are again a reading
+-- turns of a parser: the list is divided into blocks, each exactly what a turn takes at its place, up to the first place where a rule says that the turns stop; and the laws of turns, which are a reading again
 use Rattle.std.specs.Prelude.{ℕ, ◌+◌, ◌<◌, ◌≡◌, ◌⊎◌, List, [], ◌∷◌, Bool, true, false, ◌||◌, ◌≤◌, length, refl}
 use Rattle.combine_base.specs.Stream.View.{View, advanced, extended, MayFollow}
 use Rattle.combine_base.specs.Parser.Outcome.{Outcome, Accepted, Refused, Undecided, after, shape, IsDecided, IsCommitted, undecided_after, decided_after, both_false}
@@ -6,7 +6,7 @@ use Rattle.combine_base.specs.Parser.Meaning.{Reading, IsReading, IsSingle}
 use Rattle.std.proofs.Common.{arith, sym, subst, inl, inr, ◌∙◌, length-drop}
 use Rattle.combine_base.specs.Stream.Advance.{advanced_extended, open_follows, decided_stays}
 
--- the tokens and the value of one turn
+-- what one turn took
 pub record Block (A : Type 0) : Type 0 where
   pub value : A
   pub count : ℕ
@@ -27,12 +27,12 @@ abbrev pub any_committed : {A : Type 0} → List (Block A) → Bool
 any_committed [] = false
 any_committed (b ∷ bs) = b.committed || any_committed bs
 
--- the verdict on a turn's outcome: it is a block and the next turn begins, or the turns stop with this outcome added to the blocks
+-- what the outcome of a turn does: it is a block and the next turn begins, or the turns stop with what it adds to the blocks
 pub data Verdict : Type 0 where
   TakesBlock : Verdict
   StopsTurns : (last : Outcome (Unit {0})) → Verdict
 
--- A rule judges the outcome of each turn by a mark, which the turns carry: the state of the blocks so far, and of the running turn.
+-- A rule judges the outcome of each turn by a mark, which the turns carry: what is known of the blocks so far, and of the running turn.
 pub record Rule (A Mark : Type 0) : Type 0 where
   -- no turn runs at such a mark: the turns end there, accepted
   pub full : Mark → Bool
@@ -42,11 +42,11 @@ pub record Rule (A Mark : Type 0) : Type 0 where
   -- the mark after a cut inside a turn, which took n tokens before it
   pub cut : Mark → ℕ → Mark
 
--- the laws of a rule
+-- what a rule owes
 pub record IsRule {A Mark : Type 0} (rule : Rule A Mark) : Type 0 where
   pub decided : (g : Mark) (o : Outcome A) (l : Outcome (Unit {0})) → rule.judge g o ≡ StopsTurns l → IsDecided l → IsDecided o
   pub undecided : (g : Mark) (o : Outcome A) → rule.judge g o ≡ StopsTurns Undecided → o ≡ Undecided
-  -- an acceptance at the stop takes nothing, or the tokens of that turn, committed as it is
+  -- an acceptance at the stop takes nothing, or what that turn took, with its kind
   pub within : (g : Mark) (o : Outcome A) (n : ℕ) (k : Bool) → rule.judge g o ≡ StopsTurns (Accepted tt n k) → (n ≡ 0) ⊎ ((a : A) × (o ≡ Accepted a n k))
   pub commits : (g : Mark) (o : Outcome A) (l : Outcome (Unit {0})) → rule.judge g o ≡ StopsTurns l → IsCommitted o → IsCommitted l
   -- over a cut the turn is judged as it would be whole
@@ -55,22 +55,22 @@ pub record IsRule {A Mark : Type 0} (rule : Rule A Mark) : Type 0 where
   pub full_cut : (g : Mark) (n : ℕ) → rule.full (rule.cut g n) ≡ rule.full g
   pub after_cut : (g : Mark) (n : ℕ) → rule.next (rule.cut g n) ≡ rule.next g
 
--- the turn's outcomes have one shape, and the rule has one verdict on them
+-- a turn has one outcome, but for its value, and the rule says one thing of it
 pub record IsJudgedOnce {P T A Mark : Type 0} (rule : Rule A Mark) (g : Mark) (r : Reading P T A) : Type 0 where
   pub one : (v : View P T) (o o' : Outcome A) → r v o → r v o' → shape o ≡ shape o'
   pub judged : (v : View P T) (o o' : Outcome A) → r v o → r v o' → rule.judge g o ≡ rule.judge g o'
 
--- how values are collected, and the contents of a collection
+-- how values are collected, and what is seen of a collection
 pub record Collecting (A V : Type 0) : Type 1 where
   pub Held : Type 0
   pub held : V → Held
   pub none : Held
-  -- the contents after one more value
+  -- what is held after one more value
   pub more : Held → A → Held → Type 0
-  -- no growth allocates
+  -- no growth asks for memory
   pub heapless : Type 0
 
--- turns so far: the running turn's mark, the contents, and whether a block committed
+-- turns so far: the mark of the turn that runs, what is collected, and whether a block committed
 pub record TurnsSoFar (Mark Held : Type 0) : Type 0 where
   pub mark : Mark
   pub held : Held
@@ -82,18 +82,18 @@ FoldsAll more h [] i = h ≡ i
 FoldsAll {Held = Held} more h (x ∷ xs) i = (j : Held) × more h x j × FoldsAll more j xs i
 
 module _ {P T A Mark : Type 0} (step : P → T → P) (rule : Rule A Mark) (turn : Mark → Reading P T A) where
-  -- the turns stop here: no further turn runs, or the rule stops them at this turn's outcome
+  -- the turns stop here: no turn runs any more, or the rule stops them at the outcome of this one
   abbrev pub StopsHere : Outcome (Unit {0}) → Reading P T A → Mark → View P T → Bool → Type 0
   StopsHere l running g v true = l ≡ Accepted tt 0 false
   StopsHere l running g v false = (o : Outcome A) × running v o × (rule.judge g o ≡ StopsTurns l)
 
-  -- these blocks, one after another, and then a place where the turns stop; a turn has the reading of its mark, and the running one has its own
+  -- these blocks, one after another, and then a place where the turns stop; a turn has the reading of its mark, and the one that runs has its own
   abbrev pub DividesBlocks : Outcome (Unit {0}) → Reading P T A → Mark → List (Block A) → View P T → Type 0
   DividesBlocks l running g [] v = StopsHere l running g v (rule.full g)
   DividesBlocks l running g (b ∷ bs) v = (rule.full g ≡ false) × running v (outcome b) × (rule.judge g (outcome b) ≡ TakesBlock) × DividesBlocks l (turn (rule.next g)) (rule.next g) bs (advanced step b.count v)
 
 module _ {A V : Type 0} (c : Collecting A V) where
-  -- an acceptance has a collection with these contents
+  -- an acceptance has a collection that holds so much
   abbrev pub HoldsCollected : Outcome V → c.Held → Type 0
   HoldsCollected (Accepted v n k) h = c.held v ≡ h
   HoldsCollected (Refused k) h = Unit {0}

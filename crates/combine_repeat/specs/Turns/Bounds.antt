@@ -1,4 +1,4 @@
--- turns with a least and a greatest number: their rule, the errors of their refusals, their meaning, and their laws
+-- turns of which there are at least and at most so many: their rule, the errors of their refusals, what they mean, and their laws
 use Rattle.std.specs.Prelude.{ℕ, ◌≡◌, ◌+◌, ◌-◌, Bool, true, false, ◌||◌, ◌&&◌, not, nat_lt, if◌then◌else◌, Option, Some, None, List, [], ◌∷◌, codes, ◌<◌, ◌⊎◌, refl, ◌↔◌}
 use Rattle.combine_base.specs.Parser.Outcome.{Outcome, Accepted, Refused, Undecided, after, shape, IsDecided, IsCommitted}
 use Rattle.combine_repeat.specs.Turns.Blocks.{Verdict, TakesBlock, StopsTurns, Rule, Collecting, TurnsSoFar, Block, outcome, TurnsOutcome, IsRule, IsJudgedOnce, turned_is_reading, turned_is_single, turned_into}
@@ -28,21 +28,21 @@ use Rattle.combine_repeat.specs.declared.turns.TurnStop.{TurnStop}
 use Rattle.combine_repeat.specs.declared.turns.TurnStop.TheVariants as stop
 use Rattle.std.proofs.Common.{arith, ap, sym, subst, ◌∙◌, zero, suc, inl, inr}
 
--- the bounds of types of their own
+-- what bounds that are types of their own say
 abbrev pub own_first_bounds : FirstThenUpTo → Bounds
 own_first_bounds b = OwnFirst b.min (Some b.max)
 
 abbrev pub counted_bounds : MinToMax → Bounds
 counted_bounds b = Counted b.min b.max
 
--- the limit up to which turns are counted
+-- how far turns are counted
 abbrev pub count_bound : Bounds → ℕ
 count_bound Unbounded = 0
 count_bound (OwnFirst least None) = if nat_lt least 1 then 1 else least
 count_bound (OwnFirst least (Some most)) = most
 count_bound (Counted least most) = most
 
--- any number of turns is allowed
+-- there may be any number of turns
 abbrev pub is_unbounded : Bounds → Bool
 is_unbounded Unbounded = true
 is_unbounded (OwnFirst least None) = true
@@ -53,14 +53,14 @@ is_unbounded (Counted least most) = false
 abbrev pub counted_to : ℕ → ℕ → ℕ
 counted_to most n = if nat_lt n most then n + 1 else most
 
--- the most turns that are allowed have run
+-- there are as many turns as there may be
 abbrev pub full_at : Bounds → TurnIndex → Bool
 full_at Unbounded g = false
 full_at (OwnFirst least None) g = false
 full_at (OwnFirst least (Some most)) g = not (nat_lt g.number most)
 full_at (Counted least most) g = not (nat_lt g.number most)
 
--- the number of missing turns
+-- so many turns are missing
 abbrev pub missing_turns : Bounds → TurnIndex → ℕ
 missing_turns Unbounded g = 0
 missing_turns (OwnFirst least most) g = least - g.number
@@ -69,17 +69,17 @@ missing_turns (Counted least most) g = least - g.number
 abbrev pub is_enough : Bounds → TurnIndex → Bool
 is_enough b g = not (nat_lt 0 (missing_turns b g))
 
--- a missing turn is refused as its parser refuses it
+-- a turn that is missing is refused as its parser refuses it
 abbrev pub keeps_refusal : Bounds → TurnIndex → Bool
 keeps_refusal Unbounded g = false
 keeps_refusal (OwnFirst least most) g = nat_lt g.number 1
 keeps_refusal (Counted least most) g = false
 
--- an accepted turn that took n tokens took one, in this piece or before a cut
+-- an accepted turn that took n tokens took one, now or before a cut
 abbrev pub takes_token : TurnIndex → ℕ → Bool → Bool
 takes_token g n k = k && (g.took_before || nat_lt 0 n)
 
--- the same, and true for a first part of its own
+-- the same, but for a first part of its own
 abbrev pub is_first_or_takes_token : TurnIndex → ℕ → Bool → Bool
 is_first_or_takes_token g n k = if nat_lt g.number 1 then true else takes_token g n k
 
@@ -89,13 +89,13 @@ is_block_at Unbounded g n k = takes_token g n k
 is_block_at (OwnFirst least most) g n k = is_first_or_takes_token g n k
 is_block_at (Counted least most) g n k = true
 
--- the verdict on an accepted turn: its value ends the turns, or it is a block, or it takes nothing and is refused, committed
+-- what an accepted turn does: its value ends the turns, or it is a block, or it takes nothing and is refused, committed
 abbrev pub accepted_at : ℕ → Bool → Bool → Bool → Verdict
 accepted_at n k true goes = StopsTurns (Accepted tt n k)
 accepted_at n k false true = TakesBlock
 accepted_at n k false false = StopsTurns (Refused true)
 
--- a peeked refusal ends the turns, accepted, if there are enough
+-- a peeked refusal ends the turns, accepted, where there are enough
 abbrev pub refused_at : Bool → Bool → Verdict
 refused_at enough true = StopsTurns (Refused true)
 refused_at true false = StopsTurns (Accepted tt 0 false)
@@ -106,7 +106,7 @@ judged b ending g (Accepted a n k) = accepted_at n k (ending a) (is_block_at b g
 judged b ending g (Refused k) = refused_at (is_enough b g) k
 judged b ending g Undecided = StopsTurns Undecided
 
--- the turns that are missing when one is refused peeked
+-- what is missing where a turn is refused peeked
 abbrev pub lack_by : Bool → Bool → ℕ → Lack
 lack_by true owned n = lack.Nothing
 lack_by false true n = lack.First
@@ -115,7 +115,7 @@ lack_by false false n = lack.Turns n
 abbrev pub lack_at : Bounds → TurnIndex → Lack
 lack_at b g = lack_by (is_enough b g) (keeps_refusal b g) (missing_turns b g)
 
--- the same for this number of turns, of which the first is a part of its own
+-- of so many turns, of which the first is a part of its own
 abbrev pub first_lack : ℕ → TurnIndex → Lack
 first_lack least g = lack_by (not (nat_lt 0 (least - g.number))) (nat_lt g.number 1) (least - g.number)
 
@@ -125,7 +125,7 @@ cut_at g n = record { number = g.number; took_before = g.took_before || nat_lt 0
 abbrev pub turn_after : Bounds → TurnIndex → TurnIndex
 turn_after b g = record { number = counted_to (count_bound b) g.number; took_before = false }
 
--- the index of the turn after an accepted one, if that is a block
+-- the place of the turn behind an accepted one, if that is a block
 abbrev pub next_at : Bounds → TurnIndex → ℕ → Bool → Option TurnIndex
 next_at b g n k = if is_block_at b g n k then Some (turn_after b g) else None
 
@@ -140,14 +140,14 @@ gathered {Held = Held} held none more heapless = record { Held = Held; held = he
 abbrev pub fresh_turns : {V S : Type 0} → (S → Type 0) → TurnsState V S → Type 0
 fresh_turns fresh s = (s.earlier ≡ Nothing) × fresh s.running
 
--- the running turn's state
+-- the state of the turn that runs
 abbrev pub running_turn : {V S : Type 0} → TurnsState V S → S
 running_turn s = s.running
 
 pub fresh_turns_valid : {V S : Type 0} (fresh valid : S → Type 0) → ((s : S) → fresh s → valid s) → (s : TurnsState V S) → fresh_turns fresh s → valid (running_turn s)
 fresh_turns_valid fresh valid h s d = h s.running d.1
 
--- the turns so far, of the kept turns
+-- what is kept says of the turns so far
 abbrev pub so_far : {V Held : Type 0} → (V → Held) → TurnProgress V → TurnsSoFar TurnIndex Held
 so_far held t = record { mark = t.index; held = held t.into; committed = t.committed }
 
@@ -155,7 +155,7 @@ so_far held t = record { mark = t.index; held = held t.into; committed = t.commi
 abbrev pub none_yet : {Held : Type 0} → Held → TurnsSoFar TurnIndex Held
 none_yet h = record { mark = record { number = 0; took_before = false }; held = h; committed = false }
 
--- the kept turns, or else those at the start
+-- what is kept, or what the turns begin with
 abbrev pub kept_or : {V : Type 0} → TurnProgress V → Earlier V → TurnProgress V
 kept_or start Nothing = start
 kept_or start (Gathered t) = t
@@ -173,13 +173,13 @@ refusal_into : {P T E A : Type 0} (s s' : Start P T E A) → StartsInto s s' →
 refusal_into s s' i v w committed e x = record { meant = i.reads v (Refused committed) x.meant; error = i.refuses v w committed e x.error }
 
 module _ {P T R A E : Type 0} (step : P → T → P) (errors : Observers T R P E) (b : Bounds) (ending : A → Bool) where
-  -- why the turn at a place is the refusal, by its start and the view that it leaves
+  -- why the turn at a place is the refusal, by what it starts with and the view that it leaves
   pub data RefusesHere (s : Start P T E A) (g : TurnIndex) (v w : View P T) (committed : Bool) (e : E) : Type 0 where
     -- it is refused committed
     Own : (is : committed ≡ true) (refuses : MeantRefusal s.reads s.refuses v w true e) → RefusesHere s g v w committed e
-    -- it is required, and its own refusal is the result
+    -- it is missing, and its own refusal is the answer
     TurnMissing : (is : committed ≡ false) (few : is_enough b g ≡ false) (owned : keeps_refusal b g ≡ true) (refuses : MeantRefusal s.reads s.refuses v w false e) → RefusesHere s g v w committed e
-    -- it is required, and the error has the number of missing turns; the kind is the kind of its own refusal
+    -- it is missing, and it is said how many are; the kind is that of its own refusal
     Few : (is : committed ≡ false) (few : is_enough b g ≡ false) (other : keeps_refusal b g ≡ false) (own : E) (refuses : MeantRefusal s.reads s.refuses v w false own) (told : HasItems errors (errors.kind own) v.position (Only (Message (Count (missing_turns b g)))) e) → RefusesHere s g v w committed e
     -- it is accepted, and takes nothing
     Idle : (is : committed ≡ true) (value : A) (count : ℕ) (kind : Bool) (accepted : s.reads v (Accepted value count kind)) (on : ending value ≡ false) (nothing : is_block_at b g count kind ≡ false) (told : HasItems errors kinds.Refused v.position (Only (Message (Fixed (codes "repetition takes nothing")))) e) → RefusesHere s g v w committed e
@@ -192,12 +192,12 @@ module _ {P T R A E : Type 0} (step : P → T → P) (errors : Observers T R P E
   here_into s s' i g v w committed e (Idle is a n k r on nothing told) = Idle is a n k (i.reads v (Accepted a n k) r) on nothing told
 
   module _ (later : Start P T E A) where
-    -- these blocks, and then a turn that is the refusal, which is committed if a block or that turn is
+    -- these blocks, and then a turn that is the refusal, which is committed where a block or that turn is
     abbrev pub refuses_behind : Start P T E A → TurnIndex → Bool → List (Block A) → View P T → View P T → Bool → E → Type 0
     refuses_behind s g before [] v w committed e = (full_at b g ≡ false) × (own : Bool) × RefusesHere s g v w own e × (committed ≡ (before || own))
     refuses_behind s g before (x ∷ xs) v w committed e = (full_at b g ≡ false) × s.reads v (outcome x) × (judged b ending g (outcome x) ≡ TakesBlock) × refuses_behind later (turn_after b g) (before || x.committed) xs (advanced step x.count v) w committed e
 
-    -- the error of a refusal of turns, the first of which has this start, at that place, after a turn that committed or not
+    -- the error of a refusal of turns, the first of which starts so, at that place, behind a turn that committed or not
     pub record RefusesOnward (s : Start P T E A) (g : TurnIndex) (before : Bool) (v w : View P T) (committed : Bool) (e : E) : Type 0 where
       pub blocks : List (Block A)
       pub is : refuses_behind s g before blocks v w committed e
@@ -211,7 +211,7 @@ module _ {P T R A E : Type 0} (step : P → T → P) (errors : Observers T R P E
   onward_into later later' i s s' j g before v w committed e x = record { blocks = x.blocks; is = behind_into later later' i s s' j g before x.blocks v w committed e x.is }
 
   module _ (s : Start P T E A) (v w : View P T) where
-    -- the errors that a turn may stop with
+    -- which errors a turn may stop with
     module _ {V : Type 0} (turns : TurnProgress V) where
       abbrev pub stop_refuses : TurnStop V E → Type 0
       stop_refuses (stop.Over n) = Unit {0}
@@ -229,13 +229,13 @@ module _ {P T R A E : Type 0} (step : P → T → P) (errors : Observers T R P E
       pub record TurnStepRefuses (result : TurnStep V E) : Type 0 where
         pub is : turn_step_refuses result
 
--- the stop of a turn that is refused peeked with that error, started at that position, by the view that the refusal left and the view at the end
+-- what a turn stops with that is refused peeked with that error, its start at that position, by the view that the refusal left and that which is left at last
 module _ {P T R A V S E : Type 0} (step : P → T → P) (errors : Observers T R P E) (b : Bounds) (ending : A → Bool) (m : Meaning P T R E A S) where
   pub record JudgesRefusal (turns : TurnProgress V) (position : P) (own : E) (left new : View P T) (result : TurnStop V E) : Type 0 where
     pub is : (first : Bool) (s : S) (v : View P T) → v.position ≡ position → MeantRefusal (begun m first s) (begun_refuses m first s) v left false own → StopRefuses step errors b ending (started m first s) v new turns result
 
 module _ {P T R E A V S : Type 0} (step : P → T → P) (errors : Observers T R P E) (b : Bounds) (ending : A → Bool) (c : Collecting A V) where
-  -- turns with this start
+  -- turns that begin so
   abbrev pub turns_from : TurnsSoFar TurnIndex c.Held → Meaning P T R E A S → Start P T E A → Meaning P T R E V (TurnsState V S)
   turns_from start m again = record {
     whole = TurnsOutcome step (bounded b ending) c (λ _. again.reads) m.whole start;
@@ -269,7 +269,7 @@ none_if_not_positive : (n : ℕ) → (0 < n → ⊥) → n ≡ 0
 none_if_not_positive zero h = refl
 none_if_not_positive (suc n) h = absurd (h (omega arith))
 
--- the stop of the turns at an acceptance, and at a refusal
+-- what stops the turns at an acceptance, and at a refusal
 accepted_stops : (n : ℕ) (k e i : Bool) (l : Outcome (Unit {0})) → accepted_at n k e i ≡ StopsTurns l → (l ≡ Accepted tt n k) ⊎ (l ≡ Refused true)
 accepted_stops n k true i l q = inl (cc)
 accepted_stops n k false true l q = absurd (cc)

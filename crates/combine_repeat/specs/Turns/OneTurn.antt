@@ -1,4 +1,4 @@
--- the result of one turn of a call: it is a block and the next one runs, or the reason why none does
+-- what one turn of a call does: it is a block and the next one runs, or it is said why none does
 use Rattle.std.specs.Prelude.{ℕ, ◌<◌, ◌≤◌, ◌≡◌, Bool, true, false, ◌||◌}
 use Rattle.combine_base.specs.Stream.View.{View, Takes}
 use Rattle.combine_base.specs.Parser.Meaning.{Meaning}
@@ -23,7 +23,7 @@ use Rattle.combine_repeat.specs.declared.turns.TurnsState.{TurnsState}
 use Rattle.combine_repeat.specs.declared.turns.Earlier.TheVariants as earlier
 
 module _ {P T R A S E : Type 0} (w : World P T S E) (b : Bounds) (ending : A → Bool) (m : Meaning P T R E A S) (r : CallRecord P T S) (index : TurnIndex) where
-  -- the turn is accepted with that value, committed or not, which doesn't end the turns; `goes` is whether it is a block
+  -- the turn is accepted with that value, committed or not, which doesn't end the turns, and that answer says whether it is a block
   pub record JudgesTurn (x : A × Bool) (goes : Bool) : Type 0 where
     pub accepts : Accepts w m r x.0 x.1
     pub on : ending x.0 ≡ false
@@ -44,13 +44,13 @@ module _ {P T R A V S E : Type 0} (w : World P T S E) (b : Bounds) (ending : A �
     -- the turn is refused peeked and put back
     EndedByRefusal : (there : is_enough b old.index ≡ true) (refused : Refuses w m r false) (view : r.new ≡ r.old) (turns : new ≡ old) → AreTurnsOver new
 
-  -- a required turn is refused peeked
+  -- a turn that is missing is refused peeked
   pub record IsTurnRefused (new : TurnProgress V) (t : Tracked E) : Type 0 where
     pub missing : is_enough b old.index ≡ false
     pub answers : Answers w m r (PeekErr t)
     pub turns : new ≡ old
 
-  -- the turn needs more: it is the running one, with the tokens that it has taken so far
+  -- the turn needs more: it is the one that runs, with what it has taken so far
   pub record TurnNeedsMore (new : TurnProgress V) (e : E) : Type 0 where
     pub needs : (w.kind e ≡ kinds.End) × (r.new.is_open ≡ true)
     pub answers : Answers w m r (CommitErr e)
@@ -66,7 +66,7 @@ module _ {P T R A V S E : Type 0} (w : World P T S E) (b : Bounds) (ending : A �
     TakesNothing : (turn : A × Bool) (judged : JudgesTurn w b ending m r old.index turn false) (told : IsRefusalOrMemory w.kind w.heapless e) → HasTurnFailed e
     -- its value finds no memory
     ValueUnstored : (turn : A × Bool) (accepts : Accepts w m r turn.0 turn.1) (memory : w.kind e ≡ kinds.Memory) (asked : c.heapless → ⊥) → HasTurnFailed e
-    -- the error with the number of missing turns finds no memory
+    -- what is said of a missing turn finds no memory
     Untold : (refused : Refuses w m r false) (memory : w.kind e ≡ kinds.Memory) (asked : w.heapless → ⊥) → HasTurnFailed e
     -- the stream could not be put back
     Unreset : (reset : w.kind e ≡ kinds.Reset) (counted : r.before.resets < r.after.resets) (leaves : Leaves w r) → HasTurnFailed e
@@ -84,14 +84,14 @@ module _ {P T R A V S E : Type 0} (w : World P T S E) (b : Bounds) (ending : A �
   pub record TurnDid (result : TurnStep V E) : Type 0 where
     pub is : turn_did result
 
--- a call at its result, where it left the stream at this view
+-- what was known of a call at its answer, where it left the stream so
 pub record CallEndedAt {P T S : Type 0} (stands : View P T → Type 0) (now : View P T) (after : Failures) (r : CallRecord P T S) : Type 0 where
   pub begun_at : stands r.old
   pub new : r.new ≡ now
   pub failures : r.after ≡ after
   pub resets : r.before.resets ≤ r.after.resets
 
--- a call with another view of its stream at the end
+-- a call whose stream stands otherwise by then
 abbrev pub then_left : {P T S : Type 0} → CallRecord P T S → View P T → Failures → CallRecord P T S
 then_left r now after = record { first = r.first; state = r.state; left = r.left; old = r.old; new = now; before = r.before; after = after }
 
@@ -101,14 +101,14 @@ pub record IsGathered {A V Held : Type 0} (held : V → Held) (more : Held → A
   pub committed : new.committed ≡ old.committed
   pub index : new.index ≡ next
 
--- the result of turns that stop with this reason
+-- what turns answer that stop so
 abbrev pub stopped_answer : {V E : Type 0} → TurnStop V E → ParseResult V E
 stopped_answer (Over t) = accepted_as t.committed t.into
 stopped_answer (Refused t r) = refused_as t.committed r
 stopped_answer (More t e) = CommitErr e
 stopped_answer (Failed e) = CommitErr e
 
--- and the state that they keep
+-- and what they keep
 abbrev pub stopped_state : {V S E : Type 0} → TurnStop V E → TurnsState V S → TurnsState V S
 stopped_state (Over t) s = s
 stopped_state (Refused t e) s = s

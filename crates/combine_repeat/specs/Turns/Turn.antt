@@ -1,4 +1,4 @@
--- the parser of a turn: a first one, and later ones, which may differ from it
+-- what runs in a turn: a first one, and later ones, which may differ from it
 use Rattle.std.specs.Prelude.{ℕ, ◌≡◌, Bool, true, false, ◌↔◌, refl}
 use Rattle.combine_base.specs.Stream.View.{View}
 use Rattle.combine_base.specs.Parser.GivenValues.{GivesOnly, ReadsOnly}
@@ -10,7 +10,7 @@ pub record Start (P T E A : Type 0) : Type 1 where
   pub reads : Reading P T A
   pub refuses : Refusing P T E
 
--- two starts are the same
+-- it begins the same
 pub record TurnStartsSame {P T E A : Type 0} (s s' : Start P T E A) : Type 0 where
   pub reads : (v : View P T) (o : Outcome A) → s.reads v o ↔ s'.reads v o
   pub refuses : SameReasons s.refuses s'.refuses
@@ -28,7 +28,7 @@ module _ {P T R E A S : Type 0} where
   abbrev pub started : Meaning P T R E A S → Bool → S → Start P T E A
   started m first s = record { reads = begun m first s; refuses = begun_refuses m first s }
 
-  -- the start of a turn that begins afresh: the first, or a later one
+  -- where a turn begins afresh it is the first, or a later one
   abbrev pub turn_start : Meaning P T R E A S → Start P T E A → Bool → Start P T E A
   turn_start m again true = again
   turn_start m again false = from_start m
@@ -49,14 +49,14 @@ pub record TurnsGive {P T R E A S : Type 0} (valid : S → Type 0) (m : Meaning 
   pub first : GivesOnly valid m good
   pub later : ReadsOnly again.reads good
 
--- where nothing is required of values, they may be any
+-- where nothing is asked of values, they may be any
 pub gives_any : {P T R E A S : Type 0} {valid : S → Type 0} {m : Meaning P T R E A S} {again : Start P T E A} → TurnsGive valid m again (λ _. Unit {0})
 gives_any = record {
   first = record { whole = record { one = λ v a n c w. tt }; rest = λ s k. record { one = λ v a n c w. tt } };
   later = record { one = λ v a n c w. tt };
 }
 
--- outcomes of one shape, and either all values that they may have end the turns, or none
+-- one outcome but for its value, and all values that it may have end the turns, or none of them
 pub record EndsTurnsOnce {P T A : Type 0} (ending : A → Bool) (r : Reading P T A) : Type 0 where
   pub one : (v : View P T) (o o' : Outcome A) → r v o → r v o' → shape o ≡ shape o'
   pub ends : (v : View P T) (a a' : A) (n : ℕ) (k : Bool) → r v (Accepted a n k) → r v (Accepted a' n k) → ending a ≡ ending a'

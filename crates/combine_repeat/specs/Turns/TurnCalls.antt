@@ -1,4 +1,4 @@
--- the clauses of the loop, for a turn and for turns, by the stream before and after them
+-- what the calls of the loop say of a turn, and of turns, by the stream before and after them
 use Rattle.std.specs.Prelude.{Bool}
 use Rattle.combine_base.specs.Stream.View.{View}
 use Rattle.combine_base.specs.Error.Errors.{Observers}
@@ -21,7 +21,7 @@ use Rattle.combine_repeat.specs.declared.turns.TurnProgress.{TurnProgress}
 use Rattle.combine_repeat.specs.declared.turns.TurnsState.{TurnsState}
 
 module _ {Input P T R A V S E : Type 0} (i : stream.Ghosts Input T R P E) (observers : Observers T R P E) (fresh : S → Type 0) where
-  -- a turn that is refused peeked, for each state of its call at the result
+  -- a turn that is refused peeked, whatever was known of its call when it answered
   abbrev pub HaltsCall : Bounds → (A → Bool) → Collecting A V → Meaning P T R E A S → (View P T → Type 0) → (input after : Input) → Tracked E → TurnProgress V → TurnStop V E → Type 0
   HaltsCall b ending c m stands input after refusal turns result = (r : CallRecord P T S) → CallEndedAt stands (i.view input) (i.failures input) r → Answers (world i.step observers i.counts_failures fresh) m r (PeekErr refusal) → turns_halted (world i.step observers i.counts_failures fresh) b ending c m (then_left r (i.view after) (i.failures after)) turns result
 

@@ -1,4 +1,4 @@
-//! One run of an item's parser, and the state that `iterate` keeps.
+//! One item's parser, run, and what is kept while it runs.
 ghost use Rattle.std.specs.Prelude.{◌≡◌, false, true, MatchResult};
 ghost use Rattle.combine_base.specs.Parser.AnswersCalls.{AnswersCall};
 ghost use Rattle.combine_base.specs.Parser.Meaning.{MeansSame, begun_refuses};
@@ -14,7 +14,7 @@ use combine_base::repeat::Append;
 use combine_base::stream::{Kind, Stream, needs_more};
 use std::alloc::AllocError;
 
-/// The state of the items. It has the values of the finished ones, whether there are any, whether one committed, and an iterator over the rest.
+/// What is kept of the items: the values of those that are over, whether there are some, whether one of them was committed, and an iterator of those that are left.
 #[derive(Drop)]
 pub struct CollectedItems<C, I> {
     pub(super) values: C,
@@ -24,7 +24,7 @@ pub struct CollectedItems<C, I> {
 }
 
 impl<C, I> CollectedItems<C, I> {
-    /// Returns the state before the first item.
+    /// Returns what is kept where no item is over.
     #[inline]
     pub(super) fn none_yet(values: C, items: I) -> CollectedItems<C, I>
         ensures { result ≡ record { values = values; is_begun = false; committed = false; items = items } }
@@ -38,7 +38,7 @@ impl<C, I> CollectedItems<C, I> {
     }
 }
 
-/// The state of a running item: its parser, that parser's state, and the state of the other items.
+/// What is kept of an item whose parser runs: that parser, its state, and what is kept of the other items.
 #[derive(Drop)]
 pub struct RunningItem<C, I, N, U> {
     pub(super) before: CollectedItems<C, I>,
@@ -49,7 +49,7 @@ pub struct RunningItem<C, I, N, U> {
 /// The kept state of `iterate`.
 #[derive(Drop)]
 pub enum IterateState<C, I, N, U> {
-    /// `f` has not been called yet.
+    /// No item was asked for.
     Start,
     /// An item's parser runs.
     Running(RunningItem<C, I, N, U>),
@@ -64,15 +64,15 @@ impl<C, I, N, U> Default for IterateState<C, I, N, U> {
     }
 }
 
-/// The result of an item's parser.
+/// What an item's parser did.
 pub(super) enum Item<C, I, E> {
-    /// It was accepted, and the next item follows.
+    /// It was accepted, and the next item's turn comes.
     Goes(CollectedItems<C, I>),
-    /// This is the result of `iterate`.
+    /// That is the result.
     Stops(ParseResult<C, E>),
 }
 
-/// Appends the value of one more item.
+/// Adds the value of one more item.
 #[inline(always)]
 fn store<B, C: Append<B>, I: Drop>(
     before: CollectedItems<C, I>,
@@ -98,7 +98,7 @@ fn store<B, C: Append<B>, I: Drop>(
 
 /// Calls an item's parser.
 ///
-/// A peeked refusal after the first item is put back to where it began, and explained by its parser; the first item's is left as it is.
+/// A peeked refusal after the first item is put back to where it began, and explained by it; the first item's is left as it is.
 #[inline(always)]
 fn call_item<Input: Stream, N: Parser<Input>, M: ParseMode>(
     is_begun: bool,
@@ -124,7 +124,7 @@ fn call_item<Input: Stream, N: Parser<Input>, M: ParseMode>(
 
 /// Runs an item's parser from its state.
 ///
-/// Need of more is kept in `state`, which has to be a default one.
+/// Need of more is kept in `state`, which is a default one.
 #[inline(always)]
 pub(super) fn parse_item<
     Input: Stream,
@@ -175,7 +175,7 @@ pub(super) fn parse_item<
     }
 }
 
-/// Runs an item's parser as `parse_item` does, in a call that resumes; not inlined, so that the code of calls that begin afresh stays small.
+/// Runs an item's parser as `parse_item` does, in a call that resumes: apart from the code of calls that begin afresh.
 #[inline(never)]
 pub(super) fn resume_item<
     Input: Stream,

@@ -16,7 +16,7 @@ use std::marker::PhantomData;
 
 /// The parser of [`iterate`](crate::iterate::iterate).
 ///
-/// The state keeps the running item's parser, so `f` is not called for that item again.
+/// The state keeps the running item's parser, which is not asked for again.
 #[derive(Drop)]
 pub struct Iterate<C, J, F> {
     pub(super) alloc: Global,
@@ -79,7 +79,6 @@ where
                 }
             },
         }
-        // The label names the loop's invariant.
         'items: loop {
             let Some(item) = collected.items.next() else {
                 return accepted_after(collected.committed, collected.values);
@@ -100,7 +99,7 @@ where
     #[inline]
     fn add_error(&mut self, error: &mut Tracked<Input::Error>) {}
 
-    /// Counts as one parser, for any number of items.
+    /// Counts as one parser, however many items there are.
     #[inline]
     fn parser_count(&self) -> ErrorOffset {
         ErrorOffset(1)

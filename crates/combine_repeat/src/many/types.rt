@@ -1,4 +1,4 @@
-//! Names of [`Repeat`](crate::counts::Repeat) for the functions of this module.
+//! The parsers of uncounted repetitions.
 use crate::bounds::{FirstThenMore, ZeroOrMore};
 use crate::counts::Repeat;
 use crate::each::{Dropped, Each};

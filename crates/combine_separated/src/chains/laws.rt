@@ -1,4 +1,4 @@
-//! The meanings of chains and of `escaped`. The functions do nothing: their contracts are the laws.
+//! What the repetitions mean. The functions do nothing: their contracts are the laws.
 ghost use Rattle.combine_base.specs.Parser.Meaning.{MeansSame};
 ghost use Rattle.combine_separated.specs.ChainParsers.{chainl1_of, chainr1_of, escaped_of};
 ghost use Rattle.combine_separated.specs.Chains.{OperandsAreOneThenTurns, chainl1, chainr1};
@@ -11,7 +11,7 @@ use combine_base::parser::Parser;
 use combine_base::stream::Stream;
 use std::alloc::Global;
 
-/// `chainl1` means operands that are folded from the left.
+/// The law that `chainl1` means operands that are folded from the left.
 pub fn chainl1_is_left_fold<Input: Stream, P: Parser<Input>, S: Parser<Input>>(
     parser: &P,
     operator: &S,
@@ -21,9 +21,9 @@ where
     ensures { MeansSame (⟦<Chainl1<P, S> as Parser<Input>>⟧.meaning (chainl1_of parser.now operator.now)) (chainl1 Input.step Input.Error.observers (λ f x y r. S.Output.answers f x y r) (P.meaning parser.now) (S.meaning operator.now)) }
 {}
 
-/// `chainr1` means operands that are folded from the right, with each call from the start. These are an operand and turns of an operator and an operand under the rule of `many`.
+/// The law that `chainr1` means operands that are folded from the right, each call from the start; and that these are an operand and then turns of an operator and an operand under the rule of `many`.
 ///
-/// So an operator without an operand, if refused peeked, is put back and ends the chain; else the refusal is committed.
+/// So an operator without operand ends the chain where it is refused peeked, and is put back; else it is refused committed.
 pub fn chainr1_is_right_fold<Input: Stream, P: Parser<Input>, S: Parser<Input>>(
     alloc: Global,
     parser: &P,
@@ -35,7 +35,7 @@ where
     ensures turns { OperandsAreOneThenTurns Input.step Input.Error.observers (P.meaning parser.now) (S.meaning operator.now) }
 {}
 
-/// `escaped` means blocks under the rule of `many`. Each is a run of `parser` or, where it is refused peeked, the token `escape` and a run of `escaped`.
+/// The law that `escaped` means blocks under the rule of `many`, each what `parser` takes, or, where that is refused peeked, the token `escape` and what `escaped` takes.
 pub fn escaped_is_blocks<Input: Stream, P: Parser<Input>, Q: Parser<Input>>(
     parser: &P,
     escape: Input::Token,

@@ -34,7 +34,7 @@ pub type Chainr1<P, S> = NoPartial<Chain<FromRight, P, S>>;
 /// The parser of [`escaped`](crate::chains::escaped).
 pub type Escaped<Input, P, T, Q> = SkipMany<Or<Ignore<P>, Ignore<(Token<Input, T>, Q)>>>;
 
-/// The state of `escaped`. It keeps whether a turn committed, whether the running one has taken a token, and which part of it runs, with its state.
+/// What `escaped` keeps while more input is needed: whether a turn committed, whether the running one has taken a token, and which part of it runs, with its state.
 pub type EscapedState<Input, P, T, Q> = TurnsState<
     (),
     OrState<<P as Parser<Input>>::PartialState, State2<Input, Token<Input, T>, Q>>,
@@ -42,7 +42,7 @@ pub type EscapedState<Input, P, T, Q> = TurnsState<
 
 /// Operands with an operator between two of them, folded from one side. Our own.
 ///
-/// On need of more it keeps its operands.
+/// It keeps its operands on need of more.
 #[derive(Clone, Copy, Drop)]
 pub struct Chain<D, P, S> {
     direction: D,
@@ -121,7 +121,7 @@ where
         }
     }
 
-    /// Adds the items of the parser of the operands.
+    /// Adds what the parser of the operands adds.
     #[inline]
     fn add_error(&mut self, error: &mut Tracked<Input::Error>) {
         self.turn.parser.add_error(error);

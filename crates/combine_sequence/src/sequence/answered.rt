@@ -1,4 +1,4 @@
-//! The parser of `then` and its kin.
+//! A parser, and then one that a function of its value returns.
 ghost use Rattle.std.specs.Prelude.{◌≡◌, true};
 ghost use Rattle.combine_base.specs.Parser.GivenValues.{GivesOnly, gives_as};
 ghost use Rattle.combine_base.specs.Parser.KeptParsers.{KeptOf};
@@ -15,9 +15,9 @@ use next_parser::{ByMut, ByRef, ByValue, Join, NextParser};
 use state::{AnsweredProgress, AnsweredState};
 use std::marker::PhantomData;
 
-/// A parser, followed by the one that a function returns for its value.
+/// A parser, and then the one that a function returns for its value.
 ///
-/// The state keeps the returned parser; the function isn't called again.
+/// The state keeps that parser, which is not asked for again.
 #[derive(Drop)]
 #[derive_where(Clone, Copy; P, K)]
 pub struct Answered<P, K, B> {
@@ -27,7 +27,7 @@ pub struct Answered<P, K, B> {
 }
 
 impl<P, K, B> Answered<P, K, B> {
-    /// Makes the parser of a first parser and a function.
+    /// Returns the parser that is this one, and then one that is asked for so.
     #[inline]
     pub fn new(first: P, asked: K) -> Self
         ensures { result ≡ answered_of first asked }
@@ -107,22 +107,22 @@ impl<
         parse_answered(FirstMode, input, next, state)
     }
 
-    /// Adds the first parser's items.
+    /// Adds what the first parser adds.
     #[inline]
     fn add_error(&mut self, error: &mut Tracked<Input::Error>) {
         self.first.add_error(error);
     }
 
-    /// Counts as one parser, whatever the counts of the two parsers.
+    /// Counts as one parser, whatever the two parsers count.
     #[inline]
     fn parser_count(&self) -> ErrorOffset {
         ErrorOffset(1)
     }
 }
 
-/// Runs the returned parser from its kept state.
+/// Runs the parser that was asked for, from what is kept of it.
 ///
-/// After a peeked refusal the stream is put back to where that parser began, and the error is explained by it. On need of more it is kept in `state`, which is a default one before.
+/// A peeked refusal is put back to where it began, and explained by it. Need of more is kept in `state`, which is a default one.
 #[inline(always)]
 fn parse_answered<
     Input: Stream,
@@ -166,7 +166,7 @@ fn parse_answered<
     }
 }
 
-/// Runs the parser as `parse_answered` does, in a call that resumes; apart, so that the code of calls that begin afresh stays small.
+/// Runs the parser as `parse_answered` does, in a call that resumes: apart from the code of calls that begin afresh.
 #[inline(never)]
 fn resume_answered<
     Input: Stream,

@@ -1,4 +1,4 @@
-//! The meanings of `with`, `skip` and `between`, as contracts of functions that do nothing. The values have one type, so that a wrong value would have the right type.
+//! What the parsers of `sequence` mean, stated by functions that do nothing: of parsers with values of one type, so that another value would be of the right type too.
 ghost use Rattle.combine_base.specs.Parser.Meaning.{MeansSame};
 ghost use Rattle.combine_combinator.specs.CombinatorParsers.{picked_of};
 ghost use Rattle.combine_sequence.specs.Values.{first_value, middle_value, second_value};
@@ -7,7 +7,7 @@ use crate::sequence::types::{Between, Skip, With};
 use combine_base::parser::Parser;
 use combine_base::stream::Stream;
 
-/// `with` is the pair, with its second value.
+/// The law that `with` is the pair, with its second value.
 #[inline]
 pub fn with_has_the_second_value<
     Input: Stream,
@@ -17,7 +17,7 @@ pub fn with_has_the_second_value<
     ensures { MeansSame (⟦<With<P, Q, P::Output> as Parser<Input>>⟧.meaning (picked_of (p.now, q.now))) (second_value Input.step Input.Error.observers (P.meaning p.now) (Q.meaning q.now)) }
 {}
 
-/// `skip` is the pair, with its first value.
+/// The law that `skip` is the pair, with its first value.
 #[inline]
 pub fn skip_has_the_first_value<
     Input: Stream,
@@ -27,7 +27,7 @@ pub fn skip_has_the_first_value<
     ensures { MeansSame (⟦<Skip<P, Q, P::Output> as Parser<Input>>⟧.meaning (picked_of (p.now, q.now))) (first_value Input.step Input.Error.observers (P.meaning p.now) (Q.meaning q.now)) }
 {}
 
-/// `between` is the triple of the left, the inner and the right parser, with its second value.
+/// The law that `between` is the triple of the left, the inner and the right parser, with its second value.
 #[inline]
 pub fn between_has_the_inner_value<
     Input: Stream,

@@ -1,4 +1,4 @@
-//! The types of the parsers that the functions of `sequence` return.
+//! The parsers that the functions of `sequence` return.
 
 pub use super::answered::next_parser::{ByMut, ByRef, ByValue, Join, NextParser};
 pub use super::answered::state::{AnsweredProgress, AnsweredState};
@@ -6,15 +6,15 @@ pub use super::answered::{Answered, Then, ThenPartial, ThenRef};
 use combine_base::error::ErrorOffset;
 use combine_combinator::combinator::types::{Pick, Picked};
 
-/// Keeps the first of two values.
+/// The first of two values.
 #[derive(Clone, Copy, Drop)]
 pub struct First;
 
-/// Keeps the second of two values.
+/// The second of two values.
 #[derive(Clone, Copy, Drop)]
 pub struct Second;
 
-/// Keeps the middle one of three values; counts as one parser.
+/// The middle one of three values, as one parser.
 #[derive(Clone, Copy, Drop)]
 pub struct Middle;
 

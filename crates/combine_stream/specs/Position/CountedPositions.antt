@@ -1,4 +1,4 @@
--- counted positions are those after so many tokens
+-- positions that are counted are those behind so many tokens
 use Rattle.std.specs.Prelude.{ℕ, suc, ◌+◌, ◌≤◌, ◌≡◌, List, [], ◌∷◌, Bool, true, false, length, take, nat_eq, if◌then◌else◌, refl}
 use Rattle.std.proofs.Common.{arith, ap, ◌∙◌, length-take}
 use Rattle.combine_base.specs.Stream.View.{after_all}
@@ -6,15 +6,15 @@ use Rattle.combine_base.specs.Stream.Fed.{one_more, after_count}
 use Rattle.combine_stream.specs.Position.Lines.{first_place, next_place, line_feeds, has_feed, last_line, place_behind}
 use Rattle.combine_stream.specs.declared.position.text.SourcePosition.{SourcePosition}
 
--- an index is the number of tokens before it
+-- an index is how many tokens stand before it
 pub index_counts : {T : Type 0} (n : ℕ) (ts : List T) → n ≤ length ts → after_all one_more 0 (take n ts) ≡ n
 index_counts n ts h = let e = after_count 0 (take n ts) in let l = length-take n ts in omega arith
 
--- the position after these characters, which begin at that one
+-- the place behind these characters, which begin at that one
 abbrev ends : SourcePosition → List ℕ → SourcePosition
 ends p cs = record { line = p.line + line_feeds cs; column = if has_feed cs then 1 + length (last_line cs) else p.column + length cs }
 
--- at column 1 a beginning line makes no difference
+-- at column 1 it makes no difference whether a line began
 one_column : (cs : List ℕ) → (if has_feed cs then 1 + length (last_line cs) else 1 + length cs) ≡ 1 + length (last_line cs)
 one_column [] = refl
 one_column (c ∷ cs) = by_test (has_feed (c ∷ cs))
@@ -35,6 +35,6 @@ place_ends p (c ∷ cs) = by_feed (λ q. place_ends q cs) (nat_eq c 10)
     by_feed rest true = rest (record { line = p.line + 1; column = 1 }) ∙ ap (λ n. record { line = p.line + 1 + line_feeds cs; column = n }) (one_column cs) ∙ ap (λ n. record { line = n; column = 1 + length (last_line cs) }) {x = p.line + 1 + line_feeds cs} {y = p.line + suc (line_feeds cs)} (omega arith)
     by_feed rest false = rest (record { line = p.line; column = p.column + 1 }) ∙ ap (λ n. record { line = p.line + line_feeds cs; column = n }) (same_line (has_feed cs))
 
--- lines and columns are counted as specified
+-- lines and columns are counted as they are meant
 pub place_counts : (n : ℕ) (cs : List ℕ) → after_all next_place first_place (take n cs) ≡ place_behind cs n
 place_counts n cs = place_ends first_place (take n cs) ∙ ap (λ k. record { line = 1 + line_feeds (take n cs); column = k }) (one_column (take n cs))

@@ -1,4 +1,4 @@
--- the view of a slice with an index
+-- what a slice with an index is seen as
 use Rattle.std.specs.Prelude.{ℕ, false, drop}
 use Rattle.combine_base.specs.Stream.View.{View}
 use Rattle.combine_stream.specs.declared.position.slice.SliceStream.{SliceStream}

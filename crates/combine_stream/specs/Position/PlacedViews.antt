@@ -1,4 +1,4 @@
--- the view of a text with a place
+-- what a text with a place is seen as
 use Rattle.std.specs.Prelude.{ℕ, zero, suc, ◌+◌, ◌<◌, ◌≤◌, ◌≡◌, List, [], ◌∷◌, Bool, true, false, length, take, nat_eq, if◌then◌else◌, refl}
 use Rattle.std.proofs.Common.{arith, sym}
 use Rattle.std.specs.Str.{chars}

@@ -1,4 +1,4 @@
--- ranges of tokens, which are measured in items, the contracts of the calls that return them, and facts on measured lists
+-- ranges of tokens, which are measured in items, what the calls of a stream that hands them out promise, and facts on measured lists
 use Rattle.std.specs.Prelude.{ℕ, zero, suc, ◌+◌, ◌<◌, ◌≤◌, ◌≡◌, List, [], ◌∷◌, Bool, true, false, take, length, Result, Ok, Err, ◌++◌, drop, refl}
 use Rattle.combine_base.specs.Stream.View.{View, Takes}
 use Rattle.combine_base.specs.Predicates.{IsPredicate}
@@ -8,7 +8,7 @@ use Rattle.combine_base.specs.declared.stream.Failures.{Failures}
 use Rattle.std.proofs.Common.{arith, ap, sym, ◌∙◌}
 use Rattle.std.proofs.lemmas.List.{take_all, take-append-drop, take-append-le, length-append}
 
--- the number of items of these tokens
+-- how many items these tokens are
 abbrev pub size_of : {Token : Type 0} → (Token → ℕ) → List Token → ℕ
 size_of size [] = 0
 size_of size (t ∷ ts) = size t + size_of size ts
@@ -18,13 +18,13 @@ pub record IsItemPlace {Token : Type 0} (size : Token → ℕ) (us : List Token)
   pub within : k ≤ length us
   pub items : size_of size (take k us) ≡ n
 
--- the longest beginning that passes a test, which is given by its relation, is the first k tokens
+-- the longest beginning under a test, which is known by its relation, is the first k tokens
 abbrev pub Longest : {Token : Type 0} → (Token → Bool → Type 0) → List Token → ℕ → Type 0
 Longest f [] k = k ≡ 0
 Longest f (t ∷ ts) zero = f t false
 Longest f (t ∷ ts) (suc k) = f t true × Longest f ts k
 
--- the longest beginning that passes a test is the first n items
+-- the longest beginning under a test is the first n items
 pub record LongestItems {Token : Type 0} (size : Token → ℕ) (f : Token → Bool → Type 0) (us : List Token) (n : ℕ) : Type 0 where
   pub count : ℕ
   pub longest : Longest f us count
@@ -36,7 +36,7 @@ pub record EndsInsideToken {Token : Type 0} (size : Token → ℕ) (us : List To
   pub none : (k : ℕ) → IsItemPlace size us n k → ⊥
 
 module _ {Position Token Range : Type 0} (counts_failures : Type 0) (step : Position → Token → Position) (size : Token → ℕ) (spells : Range → List Token → Type 0) (old new : View Position Token) (before after : Failures) where
-  -- the first k tokens are taken, and returned as a range
+  -- the first k tokens are taken, and handed out as a range
   pub record TakesRange (r : Range) (k : ℕ) : Type 0 where
     pub taken : Takes step k old new
     pub spelled : spells r (take k old.unread)
@@ -115,7 +115,7 @@ module _ {T : Type 0} (size : T → ℕ) where
   no_tokens_of_no_items filled [] e = refl
   no_tokens_of_no_items filled (t ∷ us) e = absurd (let a = filled t in omega arith)
 
-  -- a place is one whatever follows
+  -- a place stays one, whatever follows
   pub place_stays : (us x : List T) (n k : ℕ) → IsItemPlace size us n k → IsItemPlace size (us ++ x) n k
   place_stays us x n k p = record {
     within = let a = p.within in let b = length-append us x in omega arith;
@@ -126,7 +126,7 @@ module _ {T : Type 0} (size : T → ℕ) where
   take_stays us x n k p = take-append-le k us x p.within
 
   module _ (filled : (t : T) → 0 < size t) where
-    -- a place inside a token is one whatever follows
+    -- there is no more room inside a token, whatever follows
     pub inside_stays : (us x : List T) (n : ℕ) → EndsInsideToken size us n → EndsInsideToken size (us ++ x) n
     inside_stays us x n p = record {
       enough = let a = p.enough in let b = size_append us x in omega arith;
@@ -169,7 +169,7 @@ module _ {T : Type 0} (f : T → Bool → Type 0) where
   one_longest h (t ∷ us) (suc j) zero p q = absurd (h.one t p.0 q)
   one_longest h (t ∷ us) (suc j) (suc k) p q = ap suc (one_longest h us j k p.1 q.1)
 
-  -- the longest beginning, if it ends before the end, is one whatever follows
+  -- where it ends before the end, it stays, whatever follows
   pub longest_stays : (us x : List T) (k : ℕ) → k < length us → Longest f us k → Longest f (us ++ x) k
   longest_stays [] x k h p = absurd (omega arith)
   longest_stays (t ∷ us) x zero h p = p

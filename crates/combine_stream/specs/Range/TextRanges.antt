@@ -29,7 +29,7 @@ pub record Cut (bytes : List ℕ) (n k : ℕ) (front back : List ℕ) : Type 0 w
   pub spelled : text_of front (take k (chars bytes))
   pub taken : Takes less_char k (text_view bytes) (text_view back)
 
--- the reason why the first n bytes are no text
+-- why the first n bytes are no text
 abbrev pub uncut : List ℕ → ℕ → Kind → Type 0
 uncut bytes n kinds.End = size_of len_utf8 (chars bytes) < n
 uncut bytes n kinds.Refused = EndsInsideToken len_utf8 (chars bytes) n

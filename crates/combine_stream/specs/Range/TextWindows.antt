@@ -6,7 +6,7 @@ use Rattle.std.proofs.lemmas.Str.{chars-append, encodes-chars, IsUtf8-take, IsUt
 use Rattle.std.proofs.Math.Utf8.{encodes}
 use Rattle.std.specs.Str.{chars, IsUtf8, IsCharBoundary}
 
--- the number of characters before a place
+-- how many characters stand before a place
 abbrev pub index_of : List ℕ → ℕ → ℕ
 index_of bytes c = length (chars (take c bytes))
 

@@ -184,7 +184,7 @@ impl<'a, T: Copy> ResetStream for SliceStream<'a, T> {
 
     #[inline(always)]
     fn reset(&mut self, checkpoint: SliceStream<'a, T>) -> Result<(), Kind> {
-        // It is the checkpoint; by `min` the compiler sees that it is in bounds.
+        // It's the checkpoint, and the compiler sees that it is in bounds.
         self.at = checkpoint.at.min(checkpoint.tokens.len());
         self.tokens = checkpoint.tokens;
         Ok(())

@@ -20,16 +20,16 @@ use std::fmt;
 
 /// A line and a column, both counted from 1.
 ///
-/// A line feed begins a line at column 1; every other character adds a column. A later position is greater.
+/// A line feed begins a line, at column 1; every other character is a column more. A later position is greater.
 ///
 /// # Differences from combine
 ///
-/// combine's are `i32`.
+/// In the crate they are `i32`.
 #[derive(Clone, Copy, Debug, PartialEq, Eq, PartialOrd, Ord)]
 pub struct SourcePosition {
-    /// One more than the number of line feeds before it.
+    /// One more than the line feeds before it.
     pub line: u64,
-    /// One more than the number of characters before it on its line.
+    /// One more than the characters before it on its line.
     pub column: u64,
 }
 
@@ -43,7 +43,7 @@ impl Default for SourcePosition {
     }
 }
 
-/// Writes `line: 1, column: 2`, as combine does.
+/// Writes `line: 1, column: 2`, in the crate's words.
 impl fmt::Display for SourcePosition {
     fn fmt<W: fmt::Write>(&self, f: &mut fmt::Formatter<W>) -> fmt::Result {
         let line = self.line;
@@ -68,7 +68,7 @@ impl SourcePosition {
         }
     }
 
-    // Returns the beginning of the next line: a call, so that the loop over the characters of a line stays small.
+    // Returns where the next line begins: a call, so that the loop over the characters of a line stays small.
     #[cold]
     #[inline(never)]
     fn next_line(self) -> SourcePosition
@@ -107,7 +107,7 @@ impl<'a> DefaultPositioned for &'a str {
 
     #[inline]
     fn place(self) -> TextStream<'a> {
-        // brings the bound on the length into scope
+        // (so that the length of the text is known to fit)
         let _size = self.len();
         TextStream {
             rest: self,
@@ -295,9 +295,9 @@ impl<'a> RangeStream for TextStream<'a> {
     }
 }
 
-// The steps below are functions of their own, since a `&str` parameter is known to be text.
+// The steps below are functions of their own since a `&str` parameter is known to be text.
 
-// Returns the first character and the rest.
+// Returns the first character, and what is left after it.
 #[inline(always)]
 fn split_first_char<'a>(rest: &'a str, place: SourcePosition) -> Option<(char, TextStream<'a>)>
     requires { CountsFit place (length rest.now) }
@@ -315,7 +315,7 @@ fn split_first_char<'a>(rest: &'a str, place: SourcePosition) -> Option<(char, T
     }
 }
 
-// Returns the stream of a rest at its position; a `&str` has fewer than 2^64 characters.
+// Returns the same place, whose characters are fewer than 2^64.
 #[inline(always)]
 fn here<'a>(rest: &'a str, place: SourcePosition) -> TextStream<'a>
     requires { CountsFit place (length rest.now) }
@@ -326,7 +326,7 @@ fn here<'a>(rest: &'a str, place: SourcePosition) -> TextStream<'a>
     TextStream { rest, place }
 }
 
-// Returns the position after a text.
+// Returns the place after a text.
 fn place_after(place: SourcePosition, text: &str) -> SourcePosition
     requires { CountsFit place (length text.now) }
     ensures place { result ≡ after_all next_place place (chars text.now) }
@@ -345,7 +345,7 @@ fn place_after(place: SourcePosition, text: &str) -> SourcePosition
     }
 }
 
-// Returns the first n bytes and the rest.
+// Returns the first n bytes, and what is left after them.
 #[inline(always)]
 fn take_range<'a>(
     rest: &'a str,
@@ -361,7 +361,7 @@ fn take_range<'a>(
     }
 }
 
-// Returns whether a later rest of a text differs from an earlier one.
+// Returns whether what is left of a text is another part of it.
 #[inline(always)]
 fn has_advanced(from: &str, to: &str) -> bool
     ensures { (k : ℕ) → k ≤ length (chars from.now) → chars to.now ≡ drop k (chars from.now) → result ≡ nat_lt 0 k }
@@ -402,7 +402,7 @@ fn text_end(text: &str) -> usize
     text.len()
 }
 
-// Returns the part between two places of a text, at the position of the first.
+// Returns what stands between two places of a text, at the position of the first.
 #[inline]
 fn part_of<'a>(text: &'a str, from: usize, to: usize, place: SourcePosition) -> TextStream<'a>
     requires from { IsCharBoundary text.now from }
@@ -412,14 +412,14 @@ fn part_of<'a>(text: &'a str, from: usize, to: usize, place: SourcePosition) -> 
     ensures rest { chars result.rest.now ≡ drop (index_of text.now from) (take (index_of text.now to) (chars text.now)) }
     ensures place { result.place ≡ place }
 {
-    // brings the bound on the length into scope
+    // (so that the length of the text is known to fit)
     let _size = text.len();
     let (front, _after) = text.split_at(to);
     let (_before, rest) = front.split_at(from);
     TextStream { rest, place }
 }
 
-// Returns the place of the unread rest of a part that ends at a place.
+// Returns the place of what is unread of a part that ends at a place.
 #[inline]
 fn end_within(text: &str, to: usize, rest: &str) -> usize
     requires { IsCharBoundary text.now to }
@@ -428,7 +428,7 @@ fn end_within(text: &str, to: usize, rest: &str) -> usize
     to.saturating_sub(rest.len())
 }
 
-// Returns the number of characters before a place of a text, from the number before an earlier one.
+// Returns how many characters of a text stand before a place, from how many stand before an earlier one.
 #[inline]
 fn count_chars_to(text: &str, to: usize, from: usize, before: usize) -> usize
     requires from { IsCharBoundary text.now from }
@@ -442,7 +442,7 @@ fn count_chars_to(text: &str, to: usize, from: usize, before: usize) -> usize
     before + count_characters(between)
 }
 
-// Returns the number of characters of a text.
+// Returns how many characters a text has.
 fn count_characters(text: &str) -> usize
     ensures { result ≡ length (chars text.now) }
 {

@@ -70,10 +70,10 @@ impl<'a, T: Copy> RangeStream for &'a [T] {
     }
 }
 
-// This many tokens are tested between two tests of the length.
+// This many tokens are looked through between two looks at the length.
 const BLOCK: usize = 8;
 
-// Returns the number of tokens of the longest beginning that passes a test.
+// Returns how many tokens the longest beginning under a test has.
 #[inline(always)]
 pub(crate) fn count_while<T: Copy, F: Function<T, Output = bool>>(tokens: &[T], f: &F) -> usize
     requires { (t : T) → F.callable f.now t }
@@ -81,7 +81,6 @@ pub(crate) fn count_while<T: Copy, F: Function<T, Output = bool>>(tokens: &[T], 
 {
     let mut n = 0;
     let mut rest = tokens;
-    // The label names the loop's invariant.
     'walk: loop {
         match rest.split_at_checked(BLOCK) {
             Some((block, behind)) => {

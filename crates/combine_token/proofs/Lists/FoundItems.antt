@@ -1,4 +1,4 @@
--- items of an iterator, passed over one by one until one is found, or each added as an expected item
+-- items of an iterator, passed over one by one until one is found, or each said to be expected
 use Rattle.std.proofs.Common.{◌≡◌, inl, List, [], ◌∷◌, ◌++◌, ap, Bool, true, false, Option, Some, None, refl, sym, ◌∙◌}
 use Rattle.std.specs.Iterator.{Count, Yields}
 use Rattle.std.proofs.lemmas.List.{map-append}
@@ -22,12 +22,12 @@ module _ {I A : Type 0} (steps : I → Option A → I → Type 0) where
   pub found_there : (test : A → Bool) (s t u : I) (x : A) → YieldsOnly steps (λ y. test y ≡ false) s t → steps t (Some x) u → test x ≡ true → FindsAmong steps test s true
   found_there test s t u x h i p = record { is = record { before = t; after = u; item = x; passed = record { items = h.items; yields = h.yields; each = λ k d e. tt }; gives = i; is = p } }
 
-  -- none is among the items after those that fail the test
+  -- there is none behind those that don't
   pub found_nowhere : (test : A → Bool) (s t u : I) → YieldsOnly steps (λ y. test y ≡ false) s t → steps t None u → FindsAmong steps test s false
   found_nowhere test s t u h i = record { is = record { last = t; end = u; passed = h; none = i } }
 
   module _ {R P E : Type 0} (e : Observers A R P E) where
-    -- each of the items so far was added as an expected one
+    -- each of the items so far was said to be expected
     pub record ExpectsSoFar (s t : I) (old now : E) : Type 0 where
       pub items : List A
       pub yields : Yields steps s items t

@@ -1,4 +1,4 @@
--- the items that a list must be able to give, if they are known
+-- what a list must be able to give, where its items are known
 use Rattle.std.proofs.Common.{ℕ, zero, suc, ◌<◌, ◌≡◌, List, [], ◌∷◌, length, Bool, Some, None, Option, refl, sym, ap, subst, arith, slice_get, ◌↔◌}
 use Rattle.combine_base.specs.Stream.View.{View}
 use Rattle.combine_base.specs.Error.Items.{ErrorItem}
@@ -57,7 +57,7 @@ there (y ∷ ys) zero d = (y, refl)
 there (y ∷ ys) (suc k) d = there ys k (omega arith)
 
 module _ {L I A B T : Type 0} (clones : L → L → Type 0) (makes : L → I → Type 0) (steps : I → Option A → I → Type 0) (list : L) (v : A → B) (ys : List B) (h : CanGive clones makes steps list v ys) (compares : A → T → Bool → Type 0) (known : B → T → Bool → Type 0) (read : (x : A) (t : T) (b : Bool) → known (v x) t b → compares x t b) where
-  -- facts about the items are facts about the list
+  -- what is known of the items is known of the list
   pub listed_within : IsListWithin (listed_tokens known ys) (iterated_tokens clones makes steps list compares)
   listed_within = record {
     fits = λ n t b p. let z = h.item n p.0 p.1 in (z.0, z.2, read z.0 t b (subst (λ y. known y t b) (sym z.1) p.2));
@@ -68,13 +68,13 @@ module _ {L I A B T : Type 0} (clones : L → L → Type 0) (makes : L → I →
 pub list_within_same : {T : Type 0} (l : TokenList T) → IsListWithin l l
 list_within_same l = record { fits = λ n t b p. p; has = λ n p. p; ends = λ m p. p }
 
--- lists with the same facts mean the same
+-- lists of which the same is known mean the same
 module _ {P T V : Type 0} (l l' : TokenList T) (h : IsListWithin l l') (k : IsListWithin l' l) (gives gives' : V → Type 0) (g : (v : V) → gives v ↔ gives' v) where
   both_ways : (n : ℕ) (v : View P T) (o : Outcome V) → matching l {P = P} gives n v o ↔ matching l' gives' n v o
   both_ways n v o = (matching_within l l' h gives gives' (λ x. (g x).0) n v.is_open v.unread o, matching_within l' l k gives' gives (λ x. (g x).1) n v.is_open v.unread o)
 
   module _ {R S E : Type 0} (errors : Observers T R P E) (expected expected' : Option (Info T R)) (matched : S → ℕ) (heapless heapless' : Type 0) (f : heapless ↔ heapless') (adds adds' : List (ErrorItem T R) → Type 0) where
-    -- whatever they add to errors, and whatever the expected item is
+    -- whatever they add to errors, and say was expected
     pub token_list_alike : Alike (token_list errors l expected gives matched heapless adds) (token_list errors l' expected' gives' matched heapless' adds')
     token_list_alike = record {
       whole = both_ways 0;
@@ -94,7 +94,7 @@ module _ {P T V : Type 0} (l l' : TokenList T) (h : IsListWithin l l') (k : IsLi
         let a = token_list_alike errors expected expected matched heapless heapless' f adds adds' in
         record { whole = a.whole; rest = a.rest; lost = a.lost; keeps = a.keeps; puts_back = a.puts_back; heapless = a.heapless; adds = j; refuses = same_reasons 0; refuses_from = λ s. same_reasons (matched s) }
 
--- the same list, whose value is a clone of it: such a parser allocates if a clone does
+-- the same list, whose value is a clone of it: such a parser asks for memory where a clone does
 module _ {P T R V S E : Type 0} (w : World P T S E) (errors : Observers T R P E) (l : TokenList T) (expected : Option (Info T R)) (gives : V → Type 0) (matched : S → ℕ) (heapless : Type 0) (adds : List (ErrorItem T R) → Type 0) (r : CallRecord P T S) where
   pub answers_cloned : (result : ParseResult V E) → Answers w (token_list errors l expected gives matched (heapless × heapless) adds) r result → Answers w (token_list errors l expected gives matched heapless adds) r result
   answers_cloned = answers_alike w (token_list errors l expected gives matched heapless adds) (token_list errors l expected gives matched (heapless × heapless) adds) (token_list_alike l l (list_within_same l) (list_within_same l) gives gives (λ v. (λ p. p, λ p. p)) errors expected expected matched heapless (heapless × heapless) (λ p. (p, p), λ p. p.0) adds adds) r

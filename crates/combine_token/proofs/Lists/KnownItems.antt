@@ -40,7 +40,7 @@ module _ {I A B : Type 0} (steps : I → Option A → I → Type 0) (v : A → B
   found_known ys s false a f = sym (list_any_none p f.passed.items f.passed.each) ∙ any_along f.passed.items ys s f.last f.end a f.passed.yields f.none
 
 module _ {L I A B T : Type 0} (clones : L → L → Type 0) (makes : L → I → Type 0) (steps : I → Option A → I → Type 0) (list : L) (v : A → B) (ys : List B) (h : ListGives clones makes steps list v ys) (equals : A → T → Bool) (known : B → T → Bool) (read : (x : A) (t : T) → equals x t ≡ known (v x) t) where
-  -- whether a token is among the items, by their list
+  -- whether a token is among the items is what their list says
   pub among_known : (t : T) (b : Bool) → among clones makes steps list equals t b → b ≡ list_any (λ y. known y t) ys
   among_known t b p = found_known steps v (λ x. equals x t) (λ y. known y t) (λ x. read x t) ys p.0 b (h.each p.1.clone p.0 p.1.is_clone p.1.made).runs p.2.is
 
@@ -48,7 +48,7 @@ module _ {L I A B T : Type 0} (clones : L → L → Type 0) (makes : L → I →
   pub among_is_predicate : IsPredicate (among clones makes steps list equals)
   among_is_predicate = record { one = λ t p q. let a = among_known t true p in let b = among_known t false q in cc }
 
--- the expected items are those of the list
+-- the items that were expected are those of the list
 module _ {L I A : Type 0} (clones : L → L → Type 0) (makes : L → I → Type 0) (steps : I → Option A → I → Type 0) (list : L) (ys : List A) (h : ListGives clones makes steps list (λ x. x) ys) where
   same_items : (xs zs : List A) (s t u : I) → AlwaysYields steps (λ x. x) s zs → Yields steps s xs t → steps t None u → xs ≡ zs
   same_items [] [] s t u a y k = refl

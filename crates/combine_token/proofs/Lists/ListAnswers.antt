@@ -1,4 +1,4 @@
--- the result of a match where it stops
+-- how a match is answered where it stops
 use Rattle.std.proofs.Common.{ℕ, Option, ◌+◌, ◌≤◌, ◌≡◌, ◌⊎◌, inl, inr, List, [], ◌∷◌, drop, length, length-drop, Bool, true, false, nat_lt, refl, ap, sym, subst, ◌∙◌, arith}
 use Rattle.combine_base.specs.Stream.View.{View, Takes, Moves}
 use Rattle.combine_base.specs.Error.Items.{ErrorItem, Unexpected, OfToken}
@@ -52,7 +52,7 @@ module _ {P T R V S E : Type 0} (w : World P T S E) (errors : Observers T R P E)
   abbrev m : Meaning P T R E V S
   m = token_list errors l expected gives matched heapless adds
 
-  -- before an item is requested
+  -- before an item is asked for
   pub no_memory : (e : E) → w.kind e ≡ kinds.Memory → (heapless → ⊥) → r.new ≡ r.old → w.fresh r.left → Answers w m r (CommitErr e)
   no_memory e i j k d = record { is = rw i (λ f x. j x, record { count = 0; taken = rw k (takes_none w.step r.old); state = d }) }
 
@@ -179,7 +179,7 @@ module _ {P T R V S E : Type 0} (w : World P T S E) (errors : Observers T R P E)
           by_result (CommitErr e) (inr p) = rw p.0 (λ y z. p.1 y, leaves_on (moved why x))
           by_result (PeekErr e) p = rw p.0 (peeking why x p.1 p.2 p.3)
 
-  -- all unread tokens were matched, and more may follow
+  -- all that is unread was matched, and more may follow
   module _ (n : ℕ) (now : View P T) (later : Failures) (q : Arrived w errors l expected gives matched heapless adds r.first r.state n r.old now r.before later) (s : l.has n) (i : matched r.left ≡ n) (x : FindsEnd w.counts_failures w.step now r.new later r.after) (o : r.new.is_open ≡ true) where
     every_token : q.progress.count ≡ length r.old.unread
     every_token =
@@ -212,7 +212,7 @@ module _ {P T R V S E : Type 0} (w : World P T S E) (errors : Observers T R P E)
         open_end true j a = a
         open_end false j a = absurd (cc)
 
--- the error of a mismatch is that of a refusal, unless an item of it was out of memory
+-- the error of a mismatch is that of a refusal, unless an item of it found no memory
 pub mismatch_told : {T R P E : Type 0} (s : Observers T R P E) (position : P) (token : T) (expected : Option (Info T R)) (e : E) → Mismatch s position token expected e → IsRefusalOrMemory s.kind s.heapless e
 mismatch_told s position token expected e h = record { is = by_case h.says.is }
   where

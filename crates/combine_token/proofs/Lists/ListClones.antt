@@ -46,7 +46,7 @@ module _ {L I A B : Type 0} (clones : L → L → Type 0) (makes : L → I → T
   is_iterated can_next remaining r = record { ready = r; same = λ k m x s e. let a = place_of k x s in let b = end_of m e in omega arith }
 
   module _ {T : Type 0} (compares : A → T → Bool → Type 0) (known : B → T → Bool → Type 0) (read : (x : A) (t : T) (b : Bool) → compares x t b → known (v x) t b) where
-    -- facts about the list are facts about its items
+    -- what is known of the list is known of its items
     pub iterated_within : IsListWithin (iterated_tokens clones makes steps list compares) (listed_tokens known ys)
     iterated_within = record {
       fits = λ n t b p. (v p.0, item_of n p.0 p.1, read p.0 t b p.2);
@@ -54,7 +54,7 @@ module _ {L I A B : Type 0} (clones : L → L → Type 0) (makes : L → I → T
       ends = end_of;
     }
 
-    -- the comparison depends on the items alone
+    -- the comparison answers from what the items are
     pub iterated_compares_once : ((y : B) (t : T) → known y t true → known y t false → ⊥) → ComparesOnce (iterated_tokens clones makes steps list compares)
     iterated_compares_once f = record {
       one = λ n t p q.
@@ -81,7 +81,7 @@ module _ {T : Type 0} (l l' : TokenList T) (h : IsListWithin l l') where
   matching_within gives gives' g n b us (Refused k) p = (p.0, h.has (n + p.0) p.1, matched_within n p.0 us p.2, stops_within (n + p.0) b (drop p.0 us) p.3, p.4)
   matching_within gives gives' g n b us Undecided p = (p.0, h.has (n + length us) p.1, matched_within n (length us) us p.2)
 
-  -- and its errors
+  -- and what its errors say
   pub refuses_within : {R P E : Type 0} (s : Observers T R P E) (expected : Option (Info T R)) (n : ℕ) (v w : View P T) (committed : Bool) (e : E) → RefusesList s l expected n v w committed e → RefusesList s l' expected n v w committed e
   refuses_within s expected n v w committed e p = record {
     count = p.count;

@@ -23,14 +23,14 @@ use Rattle.combine_token.proofs.Lists.Matches.{Arrived}
 use Rattle.combine_base.proofs.Errors.CallReasons.{reasons_ok, reasons_peek_ok, reasons_committed, reasons_fault, reasons_into, reasons_peeked}
 use Rattle.combine_base.proofs.Errors.Explanations.{reason_peeked}
 
--- a clone that is out of memory is no refusal
+-- a clone that finds no memory is no refusal
 pub accepted_reasons : {V E : Type 0} (kind : E → Kind) (is_open : Bool) (says : Bool → E → Type 0) (gives : V → Type 0) (infallible : Type 0) (committed : Bool) (result : ParseResult V E) → AcceptsList kind gives infallible committed result → Reasoned kind is_open says result
 accepted_reasons kind is_open says gives infallible committed (CommitOk v) h = reasons_ok kind is_open says v
 accepted_reasons kind is_open says gives infallible committed (PeekOk v) h = reasons_peek_ok kind is_open says v
 accepted_reasons kind is_open says gives infallible committed (CommitErr e) h = reasons_fault kind is_open says e kinds.Memory h.is.0 tt
 accepted_reasons kind is_open says gives infallible committed (PeekErr t) h = absurd h.is
 
--- the match has come to place n, where there is an item
+-- the match has come to place n, where an item stands
 module _ {P T R V S E : Type 0} (w : World P T S E) (s : Observers T R P E) (l : TokenList T) (expected : Option (Info T R)) (gives : V → Type 0) (matched : S → ℕ) (heapless : Type 0) (adds : List (ErrorItem T R) → Type 0) (first : Bool) (state : S) (n : ℕ) (old now : View P T) (before later : Failures) (q : Arrived w s l expected gives matched heapless adds first state n old now before later) (h : l.has n) (new : View P T) where
   abbrev says : Bool → E → Type 0
   says = RefusesList s l expected (begins_at_item matched first state) old new

@@ -1,4 +1,4 @@
--- a token that fits, and then the rest of the match
+-- a token that fits, and then what is left of the match
 use Rattle.std.proofs.Common.{Option, ℕ, zero, suc, ◌+◌, ◌≡◌, List, [], ◌∷◌, ◌++◌, take, drop, length, length-drop, ap, Bool, true, false, not, nat_lt, if◌then◌else◌, refl, sym, subst, ◌∙◌, arith, lt-ltb}
 use Rattle.combine_base.specs.Stream.View.{View, Takes}
 use Rattle.combine_base.specs.Error.Items.{ErrorItem}
@@ -79,7 +79,7 @@ module _ {P T R V S E : Type 0} (w : World P T S E) (errors : Observers T R P E)
   arrived_first true state n v f e = rw e (record { progress = progress_here w (matching l gives 0) (matching l gives 0) v f (λ v o p. p); place = omega arith; fit = none_matched l 0 v.unread })
   arrived_first false state n v f e = rw e (record { progress = progress_here w (matching l gives (matched state)) (matching l gives (matched state)) v f (λ v o p. p); place = omega arith; fit = none_matched l (matched state) v.unread })
 
-  -- and continues at a token that fits
+  -- and goes on at a token that fits
   pub arrived_next : (h : ListEndsOnce l) (first : Bool) (state : S) (n : ℕ) (u v x : View P T) (f g i : Failures) → Arrived w errors l expected gives matched heapless adds first state n u v f g → (t : T) → l.fits n t true → l.has n → TakesToken w.counts_failures w.step v x g i t → Arrived w errors l expected gives matched heapless adds first state (n + 1) u x f i
   arrived_next h first state n u v x f g i p t a b k = record {
     place = let e = p.place in omega arith;

@@ -1,4 +1,4 @@
--- lists of std's kinds, and of a caller's own iterator
+-- lists of the kinds that std has, and of a caller's own iterator
 use Rattle.std.proofs.Common.{ℕ, ◌<◌, ◌≡◌, ◌^◌, List, [], ◌∷◌, length, Option, Some, None, Bool, true, false, ◌&&◌, slice_get, refl, sym, ◌∙◌, ap, subst, arith}
 use Rattle.std.specs.Iterator.{AlwaysYields, at_most}
 use Rattle.std.specs.declared.array.IntoIter.{IntoIter}
@@ -17,7 +17,7 @@ use Rattle.combine_token.proofs.Lists.GivenItems.{CanGive, can_give_all}
 use Rattle.combine_token.proofs.Lists.ListClones.{is_iterated}
 use lib.Utf8.{scalar, scalars, encodes}
 
--- an iterator with a visible rest, as v reads it
+-- an iterator that shows what it has left, as v reads it
 module _ {I A B : Type 0} (steps : I → Option A → I → Type 0) (rest : I → List B) (v : A → B) (some : (s t : I) (x : A) → steps s (Some x) t → rest s ≡ v x ∷ rest t) (none : (s t : I) → steps s None t → rest s ≡ []) where
   gives_rest : (ys : List B) (s : I) → rest s ≡ ys → AlwaysYields steps v s ys
   gives_rest [] s e = λ x j k. let i = some s j x k in cc
@@ -26,7 +26,7 @@ module _ {I A B : Type 0} (steps : I → Option A → I → Type 0) (rest : I �
   pub rest_lists : {L : Type 0} (clones : L → L → Type 0) (makes : L → I → Type 0) (list : L) (ys : List B) → ((clone : L) (start : I) → clones list clone → makes clone start → rest start ≡ ys) → ListGives clones makes steps list v ys
   rest_lists clones makes list ys begins = record { each = λ clone start i j. record { runs = gives_rest ys start (begins clone start i j) } }
 
--- a slice, a reference to an array, or the iterator of one
+-- a slice, an array behind a reference, or the iterator of one
 module _ {L A : Type 0} (clones : L → L → Type 0) (makes : L → Iter A → Type 0) (list : L) (xs : List A) (begins : (clone : L) (start : Iter A) → clones list clone → makes clone start → iter_rest start ≡ xs) where
   pub slice_lists : ListGives clones makes iter_steps list (λ x. x.now) xs
   slice_lists = record { each = λ clone start i j. YieldsList-from_slice xs (begins clone start i j) }

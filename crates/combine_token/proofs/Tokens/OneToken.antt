@@ -46,7 +46,7 @@ module _ {P T B S E : Type 0} (w : World P T S E) (f : Option T → Option B →
           let a = stateless_asks w (one_token f) (Unit {0}) (Unit {0}) (AddsNothing {R = Unit {0}}) never_refused r is_open (undecided_at f old.is_open old.unread u.is.unread is_open) (λ x. u.is.unread) u.is.same u.is.failures in
           record { is = rw k (subst (asks_or_refuses w (stateless {R = Unit {0}} {E = E} (one_token f) (Unit {0}) (Unit {0}) AddsNothing never_refused) r) (sym is_open) a) }
 
-  -- the end of an ended list, for which the test returns a value
+  -- the end of an ended list, for which the test answers a value
   pub accepts_end : (b : B) → Uncons {Token = T} w.counts_failures w.step old new before after (Err kinds.End) → new.is_open ≡ false → f None (Some b) → ReadsToken w f old new before after (PeekOk b)
   accepts_end b u i p =
       let is_open : old.is_open ≡ false = subst (λ (v : View P T). v.is_open ≡ false) u.is.same i in
@@ -82,11 +82,11 @@ module _ {T B : Type 0} (f g : Option T → Option B → Type 0) (h : (i : Optio
   allows = record { into = λ v o. allows_at v.is_open v.unread o }
 
 module _ {P T R B S E : Type 0} (w : World P T S E) (errors : Observers T R P E) (f g : Option T → Option B → Type 0) (heapless : Type 0) (adds : List (ErrorItem T R) → Type 0) (r : CallRecord P T S) (s : w.fresh r.left) where
-  -- a parser that makes such a call, under a test whose results its own allows
+  -- a parser that makes such a call, under a test that answers as its own allows
   pub takes : (result : ParseResult B E) → ReadsToken w f r.old r.new r.before r.after result → ((i : Option T) (o : Option B) → f i o → g i o) → Answers w (takes_one errors g heapless adds) r result
   takes result h i = answers_too w (one_token f) (one_token g) (allows f g i) (Unit {0}) (Unit {0}) heapless (AddsNothing {R = Unit {0}}) adds never_refused (RefusesToken errors) (λ l. tt) r result (h.answers r.first r.state r.left s)
 
--- a call under one test, made by one under another whose results the first allows
+-- a call under one test, made by one under another that answers as the first allows
 pub reads_under : {P T B S E : Type 0} (w : World P T S E) (f g : Option T → Option B → Type 0) (old new : View P T) (before after : Failures) (result : ParseResult B E) → ReadsToken w f old new before after result → ((i : Option T) (o : Option B) → f i o → g i o) → ReadsToken w g old new before after result
 reads_under w f g old new before after result h i = record { answers = λ first state left s. answers_too w (one_token f) (one_token g) (allows f g i) (Unit {0}) (Unit {0}) (Unit {0}) (AddsNothing {R = Unit {0}}) (AddsNothing {R = Unit {0}}) never_refused never_refused (λ l. l) _ result (h.answers first state left s) }
 
@@ -95,7 +95,7 @@ of_token_too f g h None None s = s
 of_token_too f g h None (Some b) s = s
 of_token_too f g h (Some t) o s = h t o s
 
--- a call under a predicate, made by one under a function whose results the predicate allows
+-- a call under a predicate, made by one under a function that answers as the predicate allows
 pub reads_if : {P T S E : Type 0} (w : World P T S E) (f : T → Option T → Type 0) (p : T → Bool → Type 0) (old new : View P T) (before after : Failures) (result : ParseResult T E) → ReadsToken w (of_token f) old new before after result → ((t : T) (o : Option T) → f t o → holds p t o) → ReadsTokenIf w p old new before after result
 reads_if w f p old new before after result h i = record { reads = reads_under w (of_token f) (satisfied p) old new before after result h (of_token_too f (holds p) i) }
 

@@ -1,4 +1,4 @@
--- the results of a parser that returns a value and reads nothing
+-- the answers of a parser that gives a value and reads nothing
 use Rattle.std.proofs.Common.{◌≡◌, List, Bool, false, refl}
 use Rattle.combine_base.specs.Stream.View.{View}
 use Rattle.combine_base.specs.Error.Items.{ErrorItem}
@@ -19,6 +19,6 @@ module _ {P T R B S E : Type 0} (w : World P T S E) (f : P → B → Type 0) (he
   pub value_given : (b : B) → f v.position b → Answers w (given_meaning {E = E} f heapless adds) unread (PeekOk b)
   value_given b p = record { is = record { count = 0; meant = into_begun (given_value f) (Unit {0}) heapless adds (never_refused {E = E}) first state v (Accepted b 0 false) (p, refl, refl); taken = takes_none w.step v; state = d; failures = λ s. refl } }
 
-  -- making the value was out of memory
+  -- making the value found no memory
   pub value_unmade : (e : E) → w.kind e ≡ kinds.Memory → (heapless → ⊥) → Answers w (given_meaning {E = E} f heapless adds) unread (CommitErr e)
   value_unmade e i n = record { is = rw i (λ x y. n y, record { count = 0; taken = takes_none w.step v; state = d }) }

@@ -29,7 +29,7 @@ module _ {P T R A S E : Type 0} (read : Reading P T A) (keeps heapless : Type 0)
   resumes false s n u v e d = rw (e, d) (resumes_none read u)
 
 module _ {P T R A S E : Type 0} (w : World P T S E) (read : Reading P T A) (keeps heapless : Type 0) (adds : List (ErrorItem T R) → Type 0) (refuses : Refusing P T E) (r : CallRecord P T S) where
-  -- need of more, with nothing taken
+  -- need of more, where nothing was taken
   pub stateless_asks : r.old.is_open ≡ true → read r.old Undecided → (keeps → r.old.unread ≡ []) → r.new ≡ r.old → (w.counts_failures → r.after ≡ r.before) → Asks w (stateless read keeps heapless adds refuses) r
   stateless_asks i p k e f = record {
     is_open = i;
@@ -43,7 +43,7 @@ module _ {P T R A S E : Type 0} (w : World P T S E) (read : Reading P T A) (keep
     failures = f;
   }
 
--- a reading that allows all outcomes of another
+-- a reading that allows what another does
 pub record Allows {P T A : Type 0} (a b : Reading P T A) : Type 0 where
   pub into : (v : View P T) (o : Outcome A) → a v o → b v o
 
@@ -94,7 +94,7 @@ module _ {P T R R' A S E : Type 0} (w : World P T S E) (a b : Reading P T A) (h 
   peeking kinds.Reset p = p
   peeking kinds.Lost p = p
 
-  -- a result by the one is a result by the other, whatever is added to errors
+  -- what answers by the one answers by the other, whatever is added to errors
   pub answers_too : (result : ParseResult A E) → Answers w (stateless a keeps heapless adds reasons) r result → Answers w (stateless b keeps heapless' adds' reasons') r result
   answers_too (CommitOk v) p = record { is = accepts v true p.is }
   answers_too (PeekOk v) p = record { is = accepts v false p.is }

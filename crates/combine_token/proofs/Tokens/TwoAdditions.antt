@@ -1,4 +1,4 @@
--- the items that two parsers add to an error, one after the other
+-- what two parsers add to an error, one after the other
 use Rattle.std.proofs.Common.{◌≡◌, ◌⊎◌, inl, inr, List, ◌++◌, ap, sym, ◌∙◌, refl}
 use Rattle.combine_base.specs.Error.Items.{ErrorItem}
 use Rattle.combine_base.specs.Error.Errors.{Observers, Added, Unstored, AddsItems, with_items, with_items_append}
@@ -6,7 +6,7 @@ use Rattle.combine_base.specs.declared.stream.Kind.TheVariants as kinds
 use Rattle.combine_token.specs.Token.Together.{Together}
 
 module _ {T R P E : Type 0} (s : Observers T R P E) where
-  -- the added items satisfy a weaker relation
+  -- what was added is of a kind that includes it
   pub says_as : (heapless heapless' : Type 0) → (heapless' → heapless) → (f g : List (ErrorItem T R) → Type 0) → ((is : List (ErrorItem T R)) → f is → g is) → (e e' : E) → AddsItems s heapless f e e' → AddsItems s heapless' g e e'
   says_as heapless heapless' lend f g into e e' a = record { is = by_case a.is }
     where
@@ -14,7 +14,7 @@ module _ {T R P E : Type 0} (s : Observers T R P E) where
       by_case (inl k) = inl (k.0, into k.0 k.1, k.2)
       by_case (inr u) = inr (record { kind = u.kind; position = u.position; memory = λ h l. u.memory h (lend l) })
 
-  -- an item was out of memory
+  -- what was to be added found no memory
   pub says_unstored : (heapless : Type 0) (f : List (ErrorItem T R) → Type 0) (e e' : E) → s.kind e' ≡ kinds.Memory → s.position e' ≡ s.position e → (heapless → ⊥) → AddsItems s heapless f e e'
   says_unstored heapless f e e' k p n = record { is = inr (record { kind = k; position = p; memory = λ h l. n l }) }
 

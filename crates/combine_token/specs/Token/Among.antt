@@ -41,7 +41,7 @@ module _ {I A : Type 0} (steps : I → Option A → I → Type 0) where
   pub record FindsAmong (test : A → Bool) (from : I) (found : Bool) : Type 0 where
     pub is : finds_among test found from
 
-  -- the expected items, if each item is one
+  -- what was expected, where that is each item
   pub record ExpectsEach {R : Type 0} (from : I) (is : List (ErrorItem A R)) : Type 0 where
     pub last : I
     pub end : I
@@ -57,7 +57,7 @@ module _ {L I A : Type 0} (clones : L → L → Type 0) (makes : L → I → Typ
     pub is_clone : clones list clone
     pub made : makes clone start
 
-  -- the precondition on the list: an iterator of each clone may be called, and ends
+  -- what is asked of the list: an iterator of each clone may be called, and ends
   pub record EndsAlways (can_next : I → Type 0) (remaining : I → Count) : Type 0 where
     pub ready : (start : I) → StartsClone start → can_next start × IsFinite (remaining start)
 
@@ -65,15 +65,15 @@ module _ {L I A : Type 0} (clones : L → L → Type 0) (makes : L → I → Typ
   abbrev pub among : {T : Type 0} → (A → T → Bool) → T → Bool → Type 0
   among equals t found = (start : I) × StartsClone start × FindsAmong steps (λ x. equals x t) start found
 
-  -- whether an item equals the token if the token must be in the list, or else whether none does
+  -- whether an item equals the token where that is wanted, or else whether none does
   abbrev pub listed : {T : Type 0} → Bool → (A → T → Bool) → T → Bool → Type 0
   listed wanted equals t b = among equals t (if wanted then b else not b)
 
-  -- each item of the list is an expected one
+  -- each item of the list was expected
   abbrev pub expects_each : {R : Type 0} → List (ErrorItem A R) → Type 0
   expects_each is = (start : I) × StartsClone start × ExpectsEach steps start is
 
-  -- the same, if the token must be one of them
+  -- the same, where one of them is wanted
   abbrev pub expects_listed : {R : Type 0} → Bool → List (ErrorItem A R) → Type 0
   expects_listed true = expects_each
   expects_listed false = AddsNothing

@@ -1,4 +1,4 @@
--- a token or the end of an ended list, under a test that returns a value or none; the test is given by its relation
+-- what comes first, a token or the end of an ended list, under a test that answers a value or none; the test is known by its relation
 use Rattle.std.specs.Prelude.{ℕ, ◌≡◌, ◌≤◌, List, [], ◌∷◌, ◌++◌, length, Bool, true, false, Option, Some, None, refl}
 use Rattle.std.proofs.Common.{arith}
 use Rattle.combine_base.specs.Stream.View.{View}
@@ -14,7 +14,7 @@ use Rattle.combine_base.specs.declared.error.result.ParseResult.TheVariants.{Com
 use Rattle.combine_token.specs.Token.TokenReasons.{RefusesToken}
 use Rattle.combine_token.specs.Token.Stateless.{never_refused, stateless, stateless_is_meaning, stateless_means_one}
 
--- for nothing may the test return both a value and none
+-- nothing is both accepted and refused
 pub record IsTest {I B : Type 0} (f : I → Option B → Type 0) : Type 0 where
   pub one : (i : I) (b : B) → f i (Some b) → f i None → ⊥
 
@@ -52,12 +52,12 @@ ends_there_is_test {T} = record { one = by_case }
     by_case None u p q = q
     by_case (Some t) u p q = p
 
--- the token itself, if the predicate returns true for it
+-- the token itself, if the predicate holds of it
 abbrev pub holds : {T : Type 0} → (T → Bool → Type 0) → T → Option T → Type 0
 holds p t (Some u) = (u ≡ t) × p t true
 holds p t None = p t false
 
--- a token for which a predicate returns true
+-- a token that a predicate holds of
 abbrev pub satisfied : {T : Type 0} → (T → Bool → Type 0) → Option T → Option T → Type 0
 satisfied p = of_token (holds p)
 
@@ -128,7 +128,7 @@ module _ {P T B : Type 0} where
   one_token_is_single f h = record { one = λ v o o'. one_shape f h v.is_open v.unread o o' }
 
 module _ {P T R E B S : Type 0} (errors : Observers T R P E) (f : Option T → Option B → Type 0) (heapless : Type 0) (adds : List (ErrorItem T R) → Type 0) where
-  -- more is needed only if nothing is unread
+  -- more is asked for only where nothing is unread
   abbrev pub takes_one : Meaning P T R E B S
   takes_one = stateless (one_token f) (Unit {0}) heapless adds (RefusesToken errors)
 
@@ -145,7 +145,7 @@ PeekedLeaves old new (PeekOk b) = Unit {0}
 PeekedLeaves old new (CommitErr e) = Unit {0}
 PeekedLeaves old new (PeekErr t) = new ≡ old
 
--- the result of a call that reads one token under a test: that of a parser that allocates nothing, in first mode or not, and from any state
+-- what a call answers that reads one token under a test: what a parser does that takes no memory, in first mode or not, and from any state
 pub record ReadsToken {P T B S E : Type 0} (w : World P T S E) (f : Option T → Option B → Type 0) (old new : View P T) (before after : Failures) (result : ParseResult B E) : Type 0 where
   pub answers : (first : Bool) (state left : S) → w.fresh left → Answers w (stateless {R = Unit {0}} {E = E} (one_token f) (Unit {0}) (Unit {0}) AddsNothing never_refused) (record { first = first; state = state; left = left; old = old; new = new; before = before; after = after }) result
 

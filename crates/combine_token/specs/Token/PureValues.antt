@@ -1,4 +1,4 @@
--- a value that takes no token, given by its relation to the position
+-- a value for which no token is read; it is known by its relation to the position
 use Rattle.std.specs.Prelude.{◌≡◌, List, Bool, false}
 use Rattle.std.proofs.Common.{arith}
 use Rattle.combine_base.specs.Stream.View.{View, extended}

@@ -8,7 +8,7 @@ abbrev pub never_refused : {P T E : Type 0} → Refusing P T E
 never_refused v w k e = ⊥
 
 module _ {P T R E A S : Type 0} where
-  -- one reading, and the same errors, for every call; keeps is whether it needs more only if nothing is unread
+  -- one reading, and the same errors, for every call; keeps says whether it asks for more only where nothing is unread
   abbrev pub stateless : Reading P T A → Type 0 → Type 0 → (List (ErrorItem T R) → Type 0) → Refusing P T E → Meaning P T R E A S
   stateless read keeps heapless adds refuses = record { whole = read; rest = λ s. read; lost = λ s v. ⊥; keeps = keeps; puts_back = Unit {0}; heapless = heapless; adds = adds; refuses = refuses; refuses_from = λ s. refuses }
 

@@ -1,9 +1,9 @@
--- the items that two parsers add to an error, in order
+-- what two parsers add to an error, in order
 use Rattle.std.specs.Prelude.{◌≡◌, List, ◌++◌, refl, ◌↔◌}
 use Rattle.std.proofs.Common.{append_assoc, ap, sym, ◌∙◌}
 
 module _ {I : Type 0} where
-  -- the items that two parsers add to an error, in order
+  -- what two parsers add to an error, in order
   pub record Together (f g : List I → Type 0) (is : List I) : Type 0 where
     pub first : List I
     pub second : List I

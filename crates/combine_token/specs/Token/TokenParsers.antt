@@ -46,14 +46,14 @@ one_of_parser list = record { tokens = list; reads = record {}; wants = record {
 abbrev pub none_of_parser : {T Input : Type 0} → T → Listed T Input Absent
 none_of_parser list = record { tokens = list; reads = record {}; wants = record {} }
 
--- the parser of a list of tokens, with their comparison and the expected item of its errors
+-- the parser of a list of tokens, with how they compare and what its errors say was expected
 abbrev pub tokens_of : {C E T Input : Type 0} → C → E → T → Tokens C E T Input
 tokens_of cmp expected list = record { cmp = cmp; expected = expected; tokens = list; reads = record {} }
 
--- the same, without an expected item
+-- the same, of which errors say nothing
 abbrev pub tokens_cmp_of : {C T Input : Type 0} → T → C → TokensCmp C T Input
 tokens_cmp_of list cmp = record { cmp = cmp; tokens = list; reads = record {} }
 
--- the number of items matched before
+-- how many items were matched before
 abbrev pub matched_before : TokensState → ℕ
 matched_before s = s.matched

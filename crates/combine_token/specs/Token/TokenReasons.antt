@@ -1,4 +1,4 @@
--- the errors of refusals of these parsers
+-- what the errors of the refusals of these parsers are
 use Rattle.std.specs.Prelude.{ℕ, ◌+◌, ◌≡◌, List, [], ◌∷◌, drop, Bool, true, false, nat_lt, Option}
 use Rattle.combine_base.specs.Stream.View.{View}
 use Rattle.combine_base.specs.Error.Items.{end_of_input}
@@ -15,7 +15,7 @@ peeked_only says true e = ⊥
 peeked_only says false e = says e
 
 module _ {T R P E : Type 0} (s : Observers T R P E) where
-  -- at a token an error without items, at the end one with the item "end of input"
+  -- at a token an error without items, at the end one that says so
   abbrev pub refuses_one : P → List T → E → Type 0
   refuses_one place [] e = HasItems s kinds.End place (Only end_of_input) e
   refuses_one place (t ∷ ts) e = New s kinds.Refused place e
@@ -30,13 +30,13 @@ module _ {T R P E : Type 0} (s : Observers T R P E) where
     pub commits : committed ≡ after
     pub says : HasItems s kinds.End place (Only end_of_input) e
 
-  -- at a token that doesn't fit, or at the end: a committed error has the unexpected token and the expected item
+  -- at a token that doesn't fit, or at the end: a committed error says which token stands there and what was expected
   abbrev pub refuses_next : P → Option (Info T R) → List T → Bool → E → Type 0
   refuses_next place expected [] committed e = HasItems s kinds.End place (Only end_of_input) e
   refuses_next place expected (t ∷ ts) true e = Mismatch s place t expected e
   refuses_next place expected (t ∷ ts) false e = New s kinds.Refused place e
 
-  -- the error of a parser of a list that begins there at item n: so many tokens fit, and the next one doesn't, or there is none; if it is peeked the stream is left as it was
+  -- the error of a parser of a list that begins there at item n: so many tokens fit, and the next item finds none that does; where it is peeked the stream is left as it was
   pub record RefusesList (l : TokenList T) (expected : Option (Info T R)) (n : ℕ) (v w : View P T) (committed : Bool) (e : E) : Type 0 where
     pub count : ℕ
     pub has : l.has (n + count)

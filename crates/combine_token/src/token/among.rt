@@ -1,4 +1,4 @@
-//! Tokens that are items of a list, and tokens that aren't.
+//! Tokens that a list has among its items, and tokens that it hasn't.
 ghost use Rattle.std.specs.Prelude.{◌≡◌};
 ghost use Rattle.std.specs.Iterator.{IsFinite};
 ghost use Rattle.combine_base.specs.Error.Errors.{AddsItems};
@@ -11,13 +11,13 @@ use combine_base::error::{Info, ParseError};
 use std::marker::PhantomData;
 use types::{Listed, NoneOf, OneOf};
 
-/// Parses a token that equals an item of the list, and returns it.
+/// Takes a token that equals an item of the list, which is the value.
 ///
-/// The acceptance is committed. An iterator of each clone of the list must end.
+/// The acceptance is committed. An iterator of each clone of the list has to end.
 ///
 /// # Errors
 ///
-/// Another token is put back and refused peeked, as is the end of ended input. The expected items are those of the list, in order. A clone of the list that is out of memory is the fault `Memory`.
+/// Another token is put back and refused peeked, as is the end of ended input. Each item is said to be expected, in order. A clone of the list that finds no memory is the fault `Memory`.
 ///
 /// # Partial input
 ///
@@ -25,7 +25,7 @@ use types::{Listed, NoneOf, OneOf};
 ///
 /// # Differences from combine
 ///
-/// combine's list need not end.
+/// In the crate the list need not end.
 ///
 /// # Examples
 ///
@@ -46,9 +46,9 @@ pub fn one_of<T, Input>(tokens: T) -> OneOf<T, Input>
     }
 }
 
-/// Parses a token that equals no item of the list, and returns it.
+/// Takes a token that equals no item of the list, which is the value.
 ///
-/// It is as `one_of` is, but without expected items.
+/// It is as `one_of` is, but nothing is said to be expected.
 ///
 /// # Examples
 ///
@@ -77,7 +77,6 @@ where
     requires ends { IsFinite (I.remaining items) }
     ensures { FindsAmong I.next_gives (λ x. I.Item.eq x token) items result }
 {
-    // The label names the loop's invariant.
     'items: for item in items {
         if item == token {
             return true;
@@ -86,7 +85,7 @@ where
     false
 }
 
-/// Adds each item as an expected one, in order.
+/// Says of each item that it was expected, in order.
 fn expect_each<R: Copy, P: Ord, I: Iterator, E: ParseError<I::Item, R, P>>(items: I, error: &mut E)
 where
     I::Item: Copy,
@@ -94,7 +93,6 @@ where
     requires ends { IsFinite (I.remaining items) }
     ensures { AddsItems E.observers (Unit {0}) (ExpectsEach I.next_gives items) error.old error.new }
 {
-    // The label names the loop's invariant.
     'items: for item in items {
         error.add_expected(&Info::Token(item));
     }

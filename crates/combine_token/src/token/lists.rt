@@ -16,26 +16,26 @@ use combine_base::stream::{Kind, Stream, StreamOnce, ends_open};
 use std::marker::PhantomData;
 use types::{Tokens, TokensCmp, TokensState};
 
-/// Parses the tokens of a list, one after another.
+/// Takes the tokens of a list, one after another.
 ///
 /// `cmp: Fn(T::Item, Input::Token) -> bool, T: Clone + IntoIterator`, or a `Compare`.
 ///
-/// The value is a clone of the list.
+/// Its value is a clone of the list.
 ///
-/// The iterators of all clones of the list must give equally many items, fewer than 2^64. `cmp` gets each of them with the token at its place, and returns whether the token fits. `expected` is the expected item of errors. An empty list is accepted peeked.
+/// An iterator of each clone of the list has to give equally many items, fewer than 2^64. `cmp` is given each of them with the token at its place, and returns whether the token fits. `expected` is what errors say was expected. An empty list is accepted peeked.
 ///
 /// # Errors
 ///
 /// - A token that doesn't fit, or the end of ended input, refuses: peeked if no token was matched before it, else committed.
-/// - A clone of the list that is out of memory is the fault `Memory`.
+/// - A clone of the list that finds no memory is the fault `Memory`.
 ///
 /// # Partial input
 ///
-/// The end of an open piece is need of more. Nothing is left unread: the state keeps the number of matched tokens.
+/// The end of an open piece is need of more. Nothing is left unread: the state keeps how many tokens were matched.
 ///
 /// # Differences from combine
 ///
-/// `cmp` is an `Fn`, and `expected` is passed by value and converted to an `Info` here.
+/// `cmp` is an `Fn`, and `expected` is owned and turned into an `Info` here.
 pub fn tokens<C, E, T, Input: StreamOnce>(
     cmp: C,
     expected: E,
@@ -53,11 +53,11 @@ where
     }
 }
 
-/// Parses the tokens of a list as `tokens` does, without an expected item.
+/// Takes the tokens of a list as `tokens` does, but says nothing of what was expected.
 ///
 /// `cmp: Fn(T::Item, Input::Token) -> bool, T: Clone + IntoIterator`, or a `Compare`.
 ///
-/// The error of a committed mismatch has only the unexpected token.
+/// The error of a committed mismatch says only which token stands there.
 ///
 /// # Differences from combine
 ///
@@ -72,13 +72,13 @@ pub fn tokens_cmp<C, T, Input>(tokens: T, cmp: C) -> TokensCmp<C, T, Input>
     }
 }
 
-/// Runs a parser of a list of tokens once, with a clone of `value` as its value. Our own.
+/// Makes one call of a parser of a list of tokens, whose value is a clone of `value`. Our own.
 ///
-/// `expected` is the expected item of a committed mismatch's error, if it has one. `cmp` may be called on every item of the list with every token. The iterators of all clones of the list must give equally many items, fewer than 2^64.
+/// `expected` is what the error of a committed mismatch says was expected, if it says so. `cmp` may be called on every item of the list with every token. An iterator of each clone of the list has to give equally many items, fewer than 2^64.
 ///
 /// # Errors
 ///
-/// A mismatch is refused as by [`tokens`]. A clone of the list or of the value that is out of memory is the fault `Memory`.
+/// A mismatch is refused as by [`tokens`]. A clone of the list or of the value that finds no memory is the fault `Memory`.
 #[inline(always)]
 pub fn match_list<'a, C, T, V, Input: Stream, M: ParseMode>(
     cmp: &C,
@@ -111,7 +111,6 @@ where
         Ok(()) => {}
         Err(count) => return accepted(value, count > 0, position, input),
     }
-    // The label names the loop's invariant.
     'items: for item in items {
         match input.uncons() {
             Ok(token) => {

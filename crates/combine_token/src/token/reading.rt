@@ -1,4 +1,4 @@
-//! The calls of which parsers of tokens are made, also in other crates: reading one token, and matching a list.
+//! The calls of which the parsers of tokens are made, also in other crates: the reading of one token, and the match of a list.
 ghost use Rattle.combine_base.specs.Parser.Answer.{world};
 ghost use Rattle.combine_base.specs.Parser.Reasons.{Reasoned};
 ghost use Rattle.combine_base.specs.Stream.Calls.{Passes};
@@ -10,19 +10,19 @@ use combine_base::error::{ParseResult, Tracked};
 use combine_base::refusal::no_token;
 use combine_base::stream::{Kind, Stream};
 
-/// Reads a token (`Some`) or the end of ended input (`None`), under a test. Our own.
+/// Reads what comes first, a token (`Some`) or the end of ended input (`None`), under a test. Our own.
 ///
-/// If the test returns a value, this is the parser's: a token is taken and accepted committed, and the end is accepted peeked.
+/// A token that the test gives a value for is taken, and accepted committed with that value. Such an end is accepted peeked.
 ///
 /// # Errors
 ///
-/// - If the test returns `None`, the refusal is peeked, and a token is put back.
+/// - What the test gives `None` for is refused peeked, a token being put back.
 /// - A failed read or reset is the fault `Read` or `Reset`.
-/// - If errors keep items, and the item "end of input" is out of memory, this is the fault `Memory`.
+/// - If an error keeps items, one that finds no memory for "end of input" is the fault `Memory`.
 ///
 /// # Partial input
 ///
-/// The end of open input is need of more, and nothing is taken.
+/// The end of open input is need of more, and nothing is taken then.
 #[inline(always)]
 pub fn one_token<B, Input: Stream, F: FnOnce(Option<Input::Token>) -> Option<B>>(
     test: F,
@@ -60,7 +60,7 @@ pub fn one_token<B, Input: Stream, F: FnOnce(Option<Input::Token>) -> Option<B>>
     }
 }
 
-/// Reads a token for which the function returns a value, as `one_token` does. Our own.
+/// Reads a token that the function gives a value for, as `one_token` does. Our own.
 ///
 /// Another token, and the end of ended input, is refused peeked.
 #[inline(always)]
@@ -88,7 +88,7 @@ pub fn token_map<B, Input: Stream, F: FnOnce(Input::Token) -> Option<B>>(
     )
 }
 
-/// Reads a token for which the predicate returns true, as `token_map` does. Our own.
+/// Reads a token that the predicate holds of, as `token_map` does. Our own.
 #[inline(always)]
 pub fn token_if<Input: Stream, F: FnOnce(Input::Token) -> bool>(
     predicate: F,

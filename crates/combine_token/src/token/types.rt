@@ -40,7 +40,7 @@ pub struct SatisfyMap<Input, F> {
 
 /// The parser of [`token`](crate::token::token), with the stream's tokens as `T`.
 ///
-/// combine's has no such parameter. A type that holds an associated type could be neither `Copy` nor used over a borrowed slice.
+/// The crate's has no such parameter. A type that holds an associated type could be neither `Copy` nor used over a borrowed slice.
 #[derive(Drop)]
 #[derive_where(Clone, Copy; T)]
 pub struct Token<Input, T> {

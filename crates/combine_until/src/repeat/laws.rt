@@ -1,4 +1,4 @@
-//! How repetitions up to a place relate to each other. The function does nothing: its contract is the law.
+//! What repetitions up to a place mean beside one another. The function does nothing: its contract is the law.
 ghost use Rattle.combine_until.specs.Until.{some_appended};
 ghost use Rattle.combine_until.specs.UntilParsers.{RepeatOrSkip};
 
@@ -6,9 +6,9 @@ use combine_base::parser::Parser;
 use combine_base::repeat::Append;
 use combine_base::stream::Stream;
 
-/// `repeat_skip_until(p, end)` has the outcomes of `repeat_until(p, end)`, their values dropped.
+/// The law that `repeat_skip_until(p, end)` has the count and kind of `repeat_until(p, end)`.
 ///
-/// With `any` for `p` this is the law of `skip_until` and `take_until`.
+/// With `any` for `p` that is said of `skip_until` and `take_until`.
 pub fn repeat_skip_until_is_repeat_until_dropped<
     F,
     Input: Stream,

@@ -30,7 +30,7 @@ pub type SkipUntil<Input, T, E> = Ignore<SkipBlocksUntil<T, Any<Input>, E>>;
 
 /// Blocks of a parser up to a place, their values collected. Our own.
 ///
-/// `A` is the value of a block. combine has separate parsers for `repeat_until` and `take_until`.
+/// `A` is the value of a block. The crate has a parser each for `repeat_until` and `take_until`.
 #[derive(Drop)]
 #[derive_where(Clone, Copy; P, E)]
 pub struct BlocksUntil<F, A, P, E> {
@@ -73,7 +73,7 @@ impl<Input: Stream, A: Drop, P: Parser<Input, Output = A>, E: Parser<Input>, F: 
         take_blocks::<A, F, Input, Next<A, P, E>, M>(&mut self.turn, empty, mode, input, state)
     }
 
-    /// Adds the items of `end`, and then those of the parser of a block.
+    /// Adds what `end` adds, and then what the parser of a block does.
     #[inline]
     fn add_error(&mut self, error: &mut Tracked<Input::Error>) {
         self.turn.add_error(error);
@@ -125,7 +125,7 @@ impl<Input: Stream, A: Drop, P: Parser<Input, Output = A>, E: Parser<Input>> Par
         take_blocks::<A, Sink, Input, Next<A, P, E>, M>(&mut self.turn, Sink, mode, input, state)
     }
 
-    /// Adds the items of `end`, and then those of the parser of a block.
+    /// Adds what `end` adds, and then what the parser of a block does.
     #[inline]
     fn add_error(&mut self, error: &mut Tracked<Input::Error>) {
         self.turn.add_error(error);

@@ -1,4 +1,4 @@
-//! The types of the parsers that the functions of `byte` return.
+//! The parsers that the functions of `byte` return.
 
 pub use combine_byte::byte::types::{
     TakeUntilByte, TakeUntilByte2, TakeUntilByte3, TakeUntilBytes,

@@ -1,4 +1,4 @@
-//! The types of the parsers that the functions of `combinator` return.
+//! The parsers that the functions of `combinator` return.
 
 pub use combine_combinator::combinator::types::{
     Ignore, LookAhead, Map, NoPartial, NotFollowedBy, Nothing, Pick, Picked, Try,

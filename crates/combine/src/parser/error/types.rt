@@ -1,4 +1,4 @@
-//! The types of the parsers that the functions of `error` return.
+//! The parsers that the functions of `error` return.
 
 pub use combine_error::error::types::{Expected, Message, Silent};
 pub use combine_error::unexpected::types::Unexpected;

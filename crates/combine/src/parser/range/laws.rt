@@ -1,4 +1,4 @@
-//! Laws of ranges: equal outcomes of parsers of ranges; that slices and texts are compared by their tokens alone, so that `range` and `take_until_range` have one outcome; and for which functions `take_fn` has one.
+//! What parsers of ranges mean beside one another, and that slices and texts are compared by their tokens alone, by which `range` and `take_until_range` have one outcome; and of which functions `take_fn` has one.
 
 pub use combine_byte::laws::{stable_has_one_outcome, stable_means_what_it_answers};
 pub use combine_range::laws::{

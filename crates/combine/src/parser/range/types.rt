@@ -1,4 +1,4 @@
-//! The types of the parsers that the functions of `range` return.
+//! The parsers that the functions of `range` return.
 
 pub use combine_byte::range::types::TakeFn;
 pub use combine_range::length_prefix::types::{AsLength, LengthPrefix, Taking};

@@ -1,4 +1,4 @@
-//! Laws of repetitions: their meanings, and equal ones.
+//! What repetitions mean, and what they mean beside one another.
 
 pub use combine_repeat::counts::laws::{
     count_min_max_is_turns, skip_count_min_max_is_count_min_max_dropped,

@@ -1,4 +1,4 @@
-//! The types of the parsers that the functions of `repeat` return.
+//! The parsers that the functions of `repeat` return.
 
 pub use combine_repeat::counts::Repeat;
 pub use combine_repeat::counts::types::{Count, CountMinMax, SkipCount, SkipCountMinMax};

@@ -1,4 +1,4 @@
-//! Tuples of five to eight as parsers: each is a tuple of references to its first four parts, and then the others. Written by trials/widths: not to be edited by hand.
+//! Tuples of five to eight as parsers: each is a tuple of references to the parts before its last one, and then that one. Written by trials/widths: not to be edited by hand.
 ghost use Rattle.std.specs.Prelude.{◌≡◌, ◌+◌, min, true};
 ghost use Rattle.combine_base.specs.Sequence.Longer.{begins_valid_5, begins_valid_6, begins_valid_7, begins_valid_8, tuple_5, tuple_5_is_meaning, tuple_5_means_one, tuple_6, tuple_6_is_meaning, tuple_6_means_one, tuple_7, tuple_7_is_meaning, tuple_7_means_one, tuple_8, tuple_8_is_meaning, tuple_8_means_one, valid_5, valid_6, valid_7, valid_8};
 

@@ -3,7 +3,7 @@ use Rattle.combine_decode.specs.Messages.{AnswersMessage, made_reading}
 use Rattle.combine_decode.proofs.OneMessage.{GaveMessages, remaining}
 use Rattle.combine_decode.proofs.decode.drain.Given as goal
 
--- the messages so far, and the session's result on the tokens after them
+-- the messages so far, and what the session was told of the tokens behind them
 abbrev pub invariant-messages : goal.invariant-messages
 invariant-messages g l = record {
   is_open : l.session.seen.is_open ≡ true;

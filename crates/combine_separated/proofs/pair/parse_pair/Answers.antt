@@ -29,7 +29,7 @@ returns-in-Separator-clause-led g c =
 pub resume_part-requires-clause-ready : goal.resume_part-requires-clause-ready
 resume_part-requires-clause-ready g c = record { lawful = c.requires.lawful.1; valid = rw c.in-Part.is at c.requires.valid }
 
--- a state at the part is no pair that begins
+-- a state that stands at the part begins no pair
 pub resume_part-requires-clause-starts : goal.resume_part-requires-clause-starts
 resume_part-requires-clause-starts g c = λ h. absurd (rw c.in-Part.is at c.requires.starts h)
 

@@ -1,34 +1,34 @@
-//! Functions that return the second parser, by how they take the first value.
+//! Functions that are asked for a parser, by what they take.
 ghost use Rattle.std.specs.Prelude.{◌≡◌};
 
 use combine_base::function::{Function, MutFunction, RefFunction};
 
-/// A function that returns a parser for a value, by how it takes the value. Our own.
+/// A function that returns a parser for a value, by what it takes of the value. Our own.
 pub trait NextParser<A> {
     ghost use Rattle.std.specs.Prelude.{◌≡◌};
 
-    /// The type of the returned parser.
+    /// The parser that it returns.
     type Parser;
 
-    /// The type of the kept part of the value.
+    /// What is kept of the value.
     type Kept;
 
-    /// The values on which it may be called.
+    /// The values that it may be asked for.
     ghost callable: { Self → A → Type 0 };
 
-    /// The parsers that it may return for a value.
+    /// Which parsers it may return for a value.
     ghost answers: { Self → A → Self.Parser → Type 0 };
 
     ghost keeps: { A → Self.Kept };
 
-    /// Returns the kept part of the value, and the parser.
+    /// Returns what is kept of the value, and the parser.
     fn ask(&self, value: A) -> (Self::Kept, Self::Parser)
         requires { callable self.now value }
         ensures kept { result.0 ≡ keeps value }
         ensures answers { answers self.now value result.1 };
 }
 
-/// A function of the value, which isn't kept.
+/// A function that takes the value, of which nothing is kept.
 #[derive(Clone, Copy, Drop)]
 pub struct ByValue<F>(pub(crate) F);
 
@@ -46,12 +46,13 @@ impl<A, F: Function<A>> NextParser<A> for ByValue<F> {
     ghost keeps = { forget };
 
     #[inline(always)]
+    /// Returns that nothing is kept of the value, and the parser.
     fn ask(&self, value: A) -> ((), F::Output) {
         ((), self.0.call(value))
     }
 }
 
-/// A function of a mutable reference to the value, which isn't kept.
+/// A function that takes a mutable reference to the value, of which nothing is kept.
 #[derive(Clone, Copy, Drop)]
 pub struct ByMut<F>(pub(crate) F);
 
@@ -69,13 +70,14 @@ impl<A: Drop, F: MutFunction<(), A>> NextParser<A> for ByMut<F> {
     ghost keeps = { forget };
 
     #[inline(always)]
+    /// Returns that nothing is kept of the value, and the parser.
     fn ask(&self, value: A) -> ((), F::Output) {
         let mut value = value;
         ((), self.0.call_mut((), &mut value))
     }
 }
 
-/// A function of a reference to the value, which is kept.
+/// A function that takes a reference to the value, which is kept.
 #[derive(Clone, Copy, Drop)]
 pub struct ByRef<F>(pub(crate) F);
 
@@ -93,22 +95,23 @@ impl<A, F: RefFunction<A>> NextParser<A> for ByRef<F> {
     ghost keeps = { keep_first };
 
     #[inline(always)]
+    /// Returns the value, which is kept, and the parser.
     fn ask(&self, value: A) -> ((A,), F::Output) {
         let parser = self.0.call_ref(&value);
         ((value,), parser)
     }
 }
 
-/// The kept part of a first value, which is joined with the second. Our own.
+/// What is kept of a first value, which the second is put to. Our own.
 pub trait Join<B> {
     ghost use Rattle.std.specs.Prelude.{◌≡◌};
 
-    /// The type of the joined value.
+    /// The value of both.
     type Joined;
 
     ghost joined: { Self → B → Self.Joined };
 
-    /// Returns the value of the kept part and the second value.
+    /// Makes the value of both, of what was kept and the second.
     fn join(self, last: B) -> Self::Joined
         ensures { result ≡ joined self last };
 }

@@ -1,8 +1,8 @@
-//! The kept state of `then` and its kin.
+//! What `then` and its kin keep while more input is needed.
 
-/// The kept state while the second parser is running.
+/// What is kept while the parser that was asked for runs.
 ///
-/// It is the kept part of the first value, the returned parser, whether the first parser was committed, and the second parser's own state.
+/// That is what is kept of the value that it was asked for with, the parser, whether something was committed to before, and its own state.
 #[derive(Drop)]
 pub struct AnsweredProgress<V, N, U> {
     pub(super) value: V,
@@ -11,12 +11,12 @@ pub struct AnsweredProgress<V, N, U> {
     pub(super) state: U,
 }
 
-/// The kept state of `then` and its kin: that of the first or of the second parser.
+/// The kept state of `then` and its kin: that of the first parser, or what is kept of the second.
 #[derive(Drop)]
 pub enum AnsweredState<S, V, N, U> {
-    /// The first parser is running.
+    /// The first parser runs.
     First(S),
-    /// The returned parser is running.
+    /// The parser that was asked for runs.
     Second(AnsweredProgress<V, N, U>),
 }
 

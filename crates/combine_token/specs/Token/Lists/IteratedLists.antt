@@ -28,7 +28,7 @@ module _ {L I A : Type 0} (clones : L → L → Type 0) (makes : L → I → Typ
     pub made : makes clone start
     pub gave : Gave steps k start now
 
-  -- an item at place k
+  -- an item that stands at place k
   pub record IsItemAt (k : ℕ) (x : A) : Type 0 where
     pub before : I
     pub after : I
@@ -49,13 +49,13 @@ module _ {L I A : Type 0} (clones : L → L → Type 0) (makes : L → I → Typ
     ends = EndsAfter;
   }
 
-  -- the precondition on the list: an iterator of each clone may be called, ends before 2 ^ 64 items, and gives as many as that of every other
+  -- what is asked of the list: an iterator of each clone may be called, ends before 2 ^ 64 items, and gives as many as that of every other
   pub record IsIterated (can_next : I → Type 0) (remaining : I → Count) : Type 0 where
     pub ready : (clone : L) (start : I) → clones list clone → makes clone start → can_next start × IsFinite (remaining start) × (size (remaining start) < 2 ^ 64)
     pub same : (k m : ℕ) (x : A) → IsItemAt k x → EndsAfter m → k < m
 
 module _ {I A : Type 0} (steps : I → Option A → I → Type 0) where
-  -- the item that calls gave at one of their places
+  -- what calls gave at one of their places
   pub record GaveAt (k : ℕ) (from : I) : Type 0 where
     pub item : A
     pub before : I

@@ -12,11 +12,11 @@ listed_tokens {A} compares xs = record {
   ends = λ m. m ≡ length xs;
 }
 
--- the items that each clone of a list gives, as v reads them
+-- what each clone of a list gives, as v reads it
 pub record ListGives {L I A B : Type 0} (clones : L → L → Type 0) (makes : L → I → Type 0) (steps : I → Option A → I → Type 0) (list : L) (v : A → B) (ys : List B) : Type 0 where
   pub each : (clone : L) (start : I) → clones list clone → makes clone start → YieldsList steps v start ys
 
--- each fact about one list is a fact about another
+-- all that is known of one list is known of another
 pub record IsListWithin {T : Type 0} (l l' : TokenList T) : Type 0 where
   pub fits : (n : ℕ) (t : T) (b : Bool) → l.fits n t b → l'.fits n t b
   pub has : (n : ℕ) → l.has n → l'.has n

@@ -1,4 +1,4 @@
--- the results of matching a list
+-- how the match of a list is answered
 use Rattle.std.specs.Prelude.{◌≡◌, ◌<◌, ◌⊎◌, List, [], ◌∷◌, Bool, true, false, Option, Some, None}
 use Rattle.combine_base.specs.Stream.View.{View, Moves}
 use Rattle.combine_base.specs.Error.Items.{ErrorItem, Unexpected, Expected, OfToken, shown}
@@ -17,7 +17,7 @@ module _ {V E : Type 0} (kind : E → Kind) (gives : V → Type 0) (infallible :
   accepts_list (CommitErr e) = (kind e ≡ kinds.Memory) × (infallible → ⊥)
   accepts_list (PeekErr t) = ⊥
 
-  -- an acceptance with such a value, unless making it was out of memory
+  -- an acceptance with such a value, unless making it found no memory
   pub record AcceptsList (result : ParseResult V E) : Type 0 where
     pub is : accepts_list result
 
@@ -32,12 +32,12 @@ module _ {P T V E : Type 0} (counts_failures : Type 0) (step : P → T → P) (k
   pub record PutsBackList (result : ParseResult V E) : Type 0 where
     pub is : puts_back_list result
 
--- the expected item, if there is one
+-- what was expected, if that is said
 abbrev pub expecting : {T R : Type 0} → Option (Info T R) → List (ErrorItem T R)
 expecting None = []
 expecting (Some info) = Expected (shown info) ∷ []
 
--- the error of a refusal, with the unexpected token and the expected item
+-- the error of a refusal, which says which token stands there and what was expected
 pub record Mismatch {T R P E : Type 0} (s : Observers T R P E) (position : P) (token : T) (expected : Option (Info T R)) (e : E) : Type 0 where
   pub own : E
   pub new : New s kinds.Refused position own
@@ -50,6 +50,6 @@ module _ {V E : Type 0} (kind : E → Kind) (heapless : Type 0) (is_open committ
   finds_none (CommitErr e) = ((kind e ≡ why) × (why ≡ kinds.End → is_open ≡ false → committed ≡ true)) ⊎ ((kind e ≡ kinds.Memory) × (heapless → ⊥))
   finds_none (PeekErr t) = (kind t.error ≡ kinds.End) × (why ≡ kinds.End) × (is_open ≡ false) × (committed ≡ false)
 
-  -- a read got no token: at the end of an ended list it is a refusal, unless an item of it was out of memory
+  -- a read gave no token: at the end of an ended list it is a refusal, unless an item of it found no memory
   pub record FindsNone (result : ParseResult V E) : Type 0 where
     pub is : finds_none result

@@ -22,7 +22,7 @@ module _ {T : Type 0} (l : TokenList T) where
   stops_longer n b m [] x e h = absurd (cc)
   stops_longer n b m (t ∷ ts) x e h = h
 
-  -- after fewer tokens than fit, the next one doesn't stop the match
+  -- where fewer tokens than fit were passed, the next one doesn't stop the match
   goes_on : ComparesOnce l → (i c n : ℕ) (b : Bool) (us : List T) → i < c → c ≤ length us → all_fit l n (take c us) → mismatch_at l (n + i) b (drop i us) → ⊥
   goes_on h i c n b [] d e f s = omega arith
   goes_on h i zero n b (t ∷ ts) d e f s = omega arith
@@ -41,7 +41,7 @@ module _ {T V : Type 0} (l : TokenList T) (gives : V → Type 0) (n : ℕ) where
   none_of_none m c e d = let z = ltb-false 0 m (sym d) in omega arith
 
   module _ (h : ListEndsOnce l) (f : ComparesOnce l) (b : Bool) (us : List T) where
-    -- a refusal at one place, with more tokens that fit
+    -- a refusal at one place, where more tokens fit
     never_stops : (i c : ℕ) → i < c → Matched l n c us → mismatch_at l (n + i) b (drop i us) → ⊥
     never_stops i c d g s = goes_on l f i c n b us d g.enough g.each s
 
@@ -53,7 +53,7 @@ module _ {T V : Type 0} (l : TokenList T) (gives : V → Type 0) (n : ℕ) where
         by_order (inr (inl d)) = absurd (never_stops i j d q s)
         by_order (inr (inr d)) = absurd (never_stops j i d p t)
 
-    -- all unread tokens fit, and more may follow
+    -- all that is unread fits, and more may follow
     not_all : (i : ℕ) → b ≡ true → Matched l n (length us) us → Matched l n i us → mismatch_at l (n + i) b (drop i us) → ⊥
     not_all i e f p s = by_order (cases_lt i (length us))
       where
@@ -85,7 +85,7 @@ module _ {P T V : Type 0} (l : TokenList T) (gives : V → Type 0) (n : ℕ) whe
   matching_is_single h f = record { one = λ v o o' p q. one_shape l gives n h f v.is_open v.unread o o' p q }
 
 module _ {P T R E V S : Type 0} (errors : Observers T R P E) (l : TokenList T) (expected : Option (Info T R)) (gives : V → Type 0) (matched : S → ℕ) (heapless : Type 0) (adds : List (ErrorItem T R) → Type 0) where
-  -- the list from its beginning, or from a state after as many items as it counts; expected is the expected item of a mismatch
+  -- the list from its beginning, or from a state after as many items as it counts; expected is what the error of a mismatch says was expected
   abbrev pub token_list : Meaning P T R E V S
   token_list = record {
     whole = matching l gives 0;

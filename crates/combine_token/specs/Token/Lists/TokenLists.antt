@@ -1,18 +1,18 @@
--- a list of tokens that is matched one by one, given by the comparisons of its items, and by its end
+-- a list of tokens that is matched one by one: the list is known by what its items answer, and by where it ends
 use Rattle.std.specs.Prelude.{ℕ, ◌+◌, ◌-◌, ◌<◌, ◌≤◌, ◌≡◌, List, [], ◌∷◌, take, drop, length, Bool, true, false, nat_lt}
 use Rattle.combine_base.specs.Parser.Outcome.{Outcome, Accepted, Refused, Undecided}
 use Rattle.combine_base.specs.Parser.Meaning.{Reading}
 
--- the facts about a list, and about the comparisons of its items with tokens
+-- what is known of a list, and of how its items compare with tokens
 pub record TokenList (T : Type 0) : Type 1 where
   -- compared with the item at that place, the token may be found to fit, or not to
   pub fits : ℕ → T → Bool → Type 0
-  -- there is an item at that place
+  -- an item stands at that place
   pub has : ℕ → Type 0
   -- the list may end after that many items
   pub ends : ℕ → Type 0
 
--- the list has one end, and no item is at it or after it
+-- the list ends once, and no item stands there or behind
 pub record ListEndsOnce {T : Type 0} (l : TokenList T) : Type 0 where
   pub before : (k m : ℕ) → l.has k → l.ends m → k < m
   pub one : (m m' : ℕ) → l.ends m → l.ends m' → m ≡ m'

@@ -18,13 +18,13 @@ pub type OneOf<T, Input> = Listed<T, Input, Present>;
 /// The parser of [`none_of`](crate::token::none_of).
 pub type NoneOf<T, Input> = Listed<T, Input, Absent>;
 
-/// Whether a token must be among the items of a list, or must not: a type of no size.
+/// Whether a token has to be among the items of a list, or none of them: a type of no size.
 pub trait Presence {
     ghost use Rattle.std.specs.Prelude.{◌≡◌, Bool};
 
     ghost wanted: { Bool };
 
-    /// Returns whether it must be there.
+    /// Returns whether it has to be there.
     fn is_wanted() -> bool
         ensures { result ≡ wanted };
 }
@@ -55,7 +55,7 @@ impl Presence for Absent {
     }
 }
 
-/// The parser of a token that is in a list, or isn't, as `W` determines.
+/// The parser of a token that is in a list, or isn't, as `W` says.
 #[derive(Drop)]
 #[derive_where(Clone, Copy; T)]
 pub struct Listed<T, Input, W> {
@@ -109,7 +109,7 @@ where
         )
     }
 
-    /// Adds each item, in order, if the token must be in the list; else nothing.
+    /// Adds each item, in order, if one is wanted; else nothing.
     #[inline]
     fn add_error(&mut self, error: &mut Tracked<Input::Error>) {
         if W::is_wanted() {

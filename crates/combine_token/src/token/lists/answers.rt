@@ -1,4 +1,4 @@
-//! Steps of matching a list: its items are passed over, and results are made.
+//! How the items of a list are passed over, and what a match of it comes to.
 ghost use Rattle.std.specs.Prelude.{◌≡◌, ◌↔◌, ◌+◌, ◌<◌, ◌≤◌, MatchResult, true};
 ghost use Rattle.std.specs.Iterator.{IsFinite, size};
 ghost use Rattle.std.specs.Option.{option_copied};
@@ -13,7 +13,7 @@ use combine_base::error::{Info, ParseError, ParseResult, Tracked, accepted_after
 use combine_base::refusal::{add_unexpected_token, no_token};
 use combine_base::stream::{Kind, Stream};
 
-/// Takes the first `n` items, or returns how many there were if there were fewer.
+/// Takes the first `n` items, or returns how many there were, if there were fewer.
 #[inline]
 pub(super) fn pass_list_items<I: Iterator>(items: &mut I, n: usize) -> Result<(), usize>
 where
@@ -23,7 +23,6 @@ where
     ensures gave { MatchResult result (λ _. Gave I.next_gives n items.old items.new) (λ m. (m < n) × GaveAll I.next_gives m items.old) }
     ensures left { MatchResult result (λ _. I.can_next items.new × IsFinite (I.remaining items.new) × (n + size (I.remaining items.new) ≤ size (I.remaining items.old))) (λ _. Unit {0}) }
 {
-    // The label names the loop's invariant.
     'items: for passed in 0..n {
         let Some(_item) = items.next() else {
             return Err(passed);
@@ -81,7 +80,7 @@ pub(super) fn put_back<O, Input: Stream>(
     ParseResult::PeekErr(Tracked::from(input.new_error(Kind::Refused, position)))
 }
 
-/// Returns the result of a read that got no token: at the end of ended input a refusal.
+/// Returns the result where a read gave no token: at the end of ended input a refusal.
 pub(super) fn no_more<O, Input: Stream>(
     committed: bool,
     why: Kind,

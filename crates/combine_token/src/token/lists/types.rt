@@ -16,11 +16,11 @@ use std::marker::PhantomData;
 
 /// The parser of [`tokens`](crate::token::tokens).
 ///
-/// The error of a committed mismatch has the unexpected token and the expected item, at the position where the call began.
+/// Its errors at a committed mismatch say which token stands there and what was expected, at the position where the call began.
 ///
-/// On need of more nothing is left unread: the state keeps the number of matched tokens.
+/// On need of more nothing is left unread: the state keeps how many tokens were matched.
 ///
-/// `E` is an `Info`; in combine it is converted to one.
+/// `E` is an `Info`, in the crate what is turned into one.
 #[derive(Drop)]
 pub struct Tokens<C, E, T, Input> {
     pub(super) cmp: C,
@@ -44,14 +44,14 @@ impl<C: Clone, A: Copy, R: Copy, T: Clone, Input> Clone for Tokens<C, Info<A, R>
     }
 }
 
-/// The number of items of a list that were matched in earlier pieces; none by default.
+/// How many items of a list were matched in earlier pieces; none by default.
 #[derive(Default, Drop)]
 pub struct TokensState {
     pub(super) matched: usize,
 }
 
 impl TokensState {
-    /// Returns the number of items matched before, if the call resumes, and leaves none.
+    /// Hands out how many items were matched before, if the call resumes, and keeps none.
     pub(super) fn begin(&mut self, resumes: bool) -> usize
         ensures matched { result ≡ (if resumes then self.old.matched else 0) }
         ensures left { self.new.matched ≡ 0 }
@@ -114,9 +114,9 @@ where
 
 /// The parser of [`tokens_cmp`](crate::token::tokens_cmp).
 ///
-/// The error of a committed mismatch has the unexpected token, at the position where the call began, and no expected item.
+/// Its errors at a committed mismatch say which token stands there, at the position where the call began. What was expected is never said.
 ///
-/// On need of more nothing is left unread: the state keeps the number of matched tokens.
+/// On need of more nothing is left unread: the state keeps how many tokens were matched.
 #[derive(Drop)]
 #[derive_where(Clone; C, T)]
 pub struct TokensCmp<C, T, Input> {

@@ -3,7 +3,7 @@ use Rattle.combine_session.specs.Pieces.{concatenated}
 use Rattle.feedline_core.proofs.Batches.{WrittenMessages}
 use Rattle.feedline_core.proofs.decoding.decode.Given as goal
 
--- the lines of the messages so far are written, and the decoder goes on after them
+-- the lines of the messages so far are written, and the decoder goes on behind them
 abbrev pub invariant-pieces : goal.invariant-pieces
 invariant-pieces g l = record {
   maker : l.decoder.maker ≡ l.fn.maker;

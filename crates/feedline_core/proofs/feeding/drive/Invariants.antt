@@ -3,7 +3,7 @@ use Rattle.combine_session.proofs.Pieces.{AskedAfterPieces}
 use Rattle.feedline_core.proofs.RunLines.{WrittenPieces}
 use Rattle.feedline_core.proofs.feeding.drive.Given as goal
 
--- each piece so far needed more, and its line is written
+-- more was asked for after each piece so far, and a line written
 abbrev pub invariant-pieces : goal.invariant-pieces
 invariant-pieces g l = record {
   far : AskedAfterPieces g.P.Parser.meaning (g.P.Parser.meaning l.fn.parser) (take l.piece-index (map (λ p. p.now) l.pieces)) l.session;

@@ -13,7 +13,7 @@ use Rattle.feedline_core.specs.Runs.{RunsPieces}
 use Rattle.feedline_core.specs.Messages.{all_four, delete_after, message, or_set}
 use Rattle.feedline_core.proofs.feeding.run_limited.Goals as goal
 
--- the meaning of a parser of four bytes, all or none of which are taken
+-- what a parser of four bytes means, all or none of which are taken
 abbrev of_parts : {I : Type 0} → Try (Token I ℕ × Token I ℕ × Token I ℕ × Token I ℕ) → Meaning ℕ ℕ (Unit {0}) UnexpectedParse (ℕ × ℕ × ℕ × ℕ) (TryState (PartialState4 (SequenceState (Unit {0}) (Unit {0})) (SequenceState (record { 0 : ℕ }) (Unit {0})) (SequenceState (ℕ × ℕ) (Unit {0})) (SequenceState (ℕ × ℕ × ℕ) (Unit {0}))))
 of_parts t = all_four t.0.0.token t.0.1.token t.0.2.token t.0.3.token
 

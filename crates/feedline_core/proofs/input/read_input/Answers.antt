@@ -3,7 +3,7 @@ use Rattle.std.proofs.lemmas.List.{take_all, length-take}
 use Rattle.std.specs.Option.{option_map}
 use Rattle.feedline_core.proofs.input.read_input.Goals as goal
 
--- fewer bytes came than were requested, so these are all
+-- fewer bytes came than were asked for, so these are all
 all_read : (left : Option (List ℕ)) (limit : ℕ) (read : List ℕ) → length read < limit → IfSome (option_map (take limit) left) (λ bytes. read ≡ bytes) → IfSome left (λ all. all ≡ read)
 all_read None limit read h e = e
 all_read (Some all) limit read h e =

@@ -19,7 +19,7 @@ returns-in-Before-clause-called g c =
 pub resume_last-requires-clause-ready : goal.resume_last-requires-clause-ready
 resume_last-requires-clause-ready g c = record { lawful = c.requires.ready.lawful.1; valid = rw (sym c.into_place.ensures ∙ c.in-Last.is) at c.requires.ready.valid }
 
--- a state in the last part begins no sequence
+-- a state that stands at the last part begins no sequence
 pub resume_last-requires-clause-starts : goal.resume_last-requires-clause-starts
 resume_last-requires-clause-starts g c = λ h. absurd (rw (sym c.into_place.ensures ∙ c.in-Last.is) at c.requires.starts h)
 

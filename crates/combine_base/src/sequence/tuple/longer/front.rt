@@ -1,4 +1,4 @@
-//! The first parts of a longer tuple, borrowed.
+//! The parts before those of a longer tuple, lent.
 ghost use Rattle.std.specs.Prelude.{◌≡◌, refl};
 ghost use Rattle.combine_base.specs.Sequence.Places.{begins_4, begins_valid_4, first_fresh, valid_4};
 ghost use Rattle.combine_base.specs.Sequence.Tuples.{tuple_4, tuple_4_is_meaning};
@@ -9,7 +9,7 @@ use crate::sequence::PartialState4;
 use crate::sequence::tuple::{State4, parse_4};
 use crate::stream::Stream;
 
-/// Borrowed parts, which run before another one.
+/// Parts that were lent, and that run before another one.
 pub(super) trait Front<Input: Stream> {
     ghost use Rattle.std.specs.Prelude.{◌≡◌, false, true};
     ghost use Rattle.combine_base.specs.Parser.Meaning.{Meaning, IsMeaning, MeansSame};
@@ -21,31 +21,31 @@ pub(super) trait Front<Input: Stream> {
     /// The values of the parts.
     type Output: Drop;
 
-    /// The kept state of the parts.
+    /// What is kept of the parts.
     type State: Drop;
 
-    /// The precondition of a call of the parts.
+    /// What a call needs of the parts.
     ghost lawful: { Self → Type 0 };
 
-    /// The states that a call may get.
+    /// The states that a call may be given.
     ghost valid: { Self.State → Type 0 };
 
     /// The states that begin the parts.
     ghost fresh: { Self.State → Type 0 };
 
-    /// The meaning of the parts.
+    /// What the parts mean.
     ghost meaning: { Self → Meaning Input.Position Input.Token Input.Range Input.Error Self.Output Self.State };
 
-    /// Whether the same parts are borrowed.
+    /// The same parts are lent.
     ghost same: { Self → Self → Type 0 };
 
     /// Returns a state that begins the parts.
     fn begin() -> Self::State
         ensures { fresh result };
 
-    /// Runs the parts, from their kept state.
+    /// Runs the parts, from what is kept of them.
     ///
-    /// After need of more `state` is the kept state; every other result leaves it as it was, one that begins the parts.
+    /// Need of more is kept in `state`, and every other result leaves one that begins the parts, as it was.
     fn run<M: ParseMode>(
         &mut self,
         mode: M,

@@ -1,4 +1,4 @@
-//! One to four parts after borrowed ones.
+//! One to four parts after those that were lent.
 ghost use Rattle.std.specs.Prelude.{◌≡◌, true};
 ghost use Rattle.combine_base.specs.Sequence.SequenceCalls.{FollowsPartsByFour, FollowsPartsByOne, FollowsPartsByThree, FollowsPartsByTwo};
 ghost use Rattle.combine_base.specs.Sequence.Places.{begins_sequence, valid_in};
@@ -10,9 +10,9 @@ use crate::sequence::part::{Push, parse_rest, resume_last};
 use crate::sequence::{SequencePlace, SequenceState, TupleState};
 use crate::stream::Stream;
 
-/// Runs borrowed parts, and one more, from their kept state.
+/// Runs parts that were lent, and one more, from what is kept of them.
 ///
-/// `state` begins the parts; after need of more it is the kept state, and every other result leaves it as it was.
+/// Need of more is kept in `state`, which begins them, and which every other result leaves as it was.
 #[inline(always)]
 pub(super) fn parse_with_one_more<
     Input: Stream,
@@ -47,9 +47,9 @@ pub(super) fn parse_with_one_more<
     }
 }
 
-/// Runs borrowed parts, and two more, from their kept state.
+/// Runs parts that were lent, and two more, from what is kept of them.
 ///
-/// `state` begins the parts; after need of more it is the kept state, and every other result leaves it as it was.
+/// Need of more is kept in `state`, which begins them, and which every other result leaves as it was.
 #[inline(always)]
 pub(super) fn parse_with_two_more<
     Input: Stream,
@@ -88,9 +88,9 @@ pub(super) fn parse_with_two_more<
     }
 }
 
-/// Runs borrowed parts, and three more, from their kept state.
+/// Runs parts that were lent, and three more, from what is kept of them.
 ///
-/// `state` begins the parts; after need of more it is the kept state, and every other result leaves it as it was.
+/// Need of more is kept in `state`, which begins them, and which every other result leaves as it was.
 #[inline(always)]
 pub(super) fn parse_with_three_more<
     Input: Stream,
@@ -135,9 +135,9 @@ pub(super) fn parse_with_three_more<
     }
 }
 
-/// Runs borrowed parts, and four more, from their kept state.
+/// Runs parts that were lent, and four more, from what is kept of them.
 ///
-/// `state` begins the parts; after need of more it is the kept state, and every other result leaves it as it was.
+/// Need of more is kept in `state`, which begins them, and which every other result leaves as it was.
 #[inline(always)]
 pub(super) fn parse_with_four_more<
     Input: Stream,

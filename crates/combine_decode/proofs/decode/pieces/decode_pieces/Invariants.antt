@@ -3,7 +3,7 @@ use Rattle.combine_session.specs.Pieces.{concatenated}
 use Rattle.combine_decode.proofs.DecodedPieces.{DecoderWasFed}
 use Rattle.combine_decode.proofs.decode.pieces.decode_pieces.Given as goal
 
--- the messages so far are those of the pieces so far, after which the decoder continues
+-- the messages so far are those of the pieces so far, behind which the decoder goes on
 abbrev pub invariant-pieces : goal.invariant-pieces
 invariant-pieces g l = record {
   maker : l.decoder.maker ≡ l.fn.maker;

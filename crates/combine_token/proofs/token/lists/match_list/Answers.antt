@@ -56,7 +56,7 @@ returns-then-not-fits-clause-answers g c =
     let o = g.met.Input.ResetStream.lasts _ _ _ _ c.uncons.ensures.passes.marks (g.met.Input.ResetStream.lasts _ _ _ _ i.passes.marks c.checkpoint-start.ensures.stands) in
     match_put_back _ _ _ _ _ _ _ _ _ _ _ _ i.arrived i.cleared (_, there) _ _ _ (_, there, n) c.in-Ok-uncons.ensures.read.is _ (sym (le-ltb _ _ c.if-matched-gt0.false)) _ o (omega arith) c.put_back.ensures.back
 
--- found by a search, so that it also holds if a wrong body puts the stream back
+-- found by a search, so that it holds too where a wrong body puts the stream back
 pub returns-then-ends_open-clause-passes : goal.returns-then-ends_open-clause-passes
 returns-then-ends_open-clause-passes g c =
     let p = c.items.invariant.passes in
