@@ -36,23 +36,17 @@ impl Function<u8> for Class {
     #[inline(always)]
     fn call(&self, byte: u8) -> bool {
         match self {
-            Class::Blank => is_blank(byte),
+            Class::Blank => matches!(byte, b' ' | b'\t' | b'\n' | b'\r'),
             Class::Bare => byte.is_ascii_alphanumeric() || matches!(byte, b'+' | b'-' | b'.'),
             Class::Plain => byte >= b' ' && byte != b'"' && byte != b'\\',
             Class::Escape => b"\"\\/bfnrtu".contains(&byte),
             Class::Sign => matches!(byte, b',' | b':' | b'[' | b']' | b'{' | b'}'),
-            Class::After(place) => {
-                is_blank(byte)
-                    || place
-                        .after()
-                        .is_some_and(|it: Place| it.after_sign(byte).is_some())
-            }
+            Class::After(place) => place
+                .after()
+                .and_then(|it: Place| it.after_sign(byte))
+                .is_some(),
         }
     }
-}
-
-fn is_blank(byte: u8) -> bool {
-    matches!(byte, b' ' | b'\t' | b'\n' | b'\r')
 }
 
 /// A text with its quotes, a number or a word, unchanged, and the blank, the comma or the colon after it; or no bytes, and a sign.
@@ -118,6 +112,5 @@ pub fn read_number(bytes: &[u8]) -> Result<(), UnexpectedParse> {
         digits(),
     ));
     let mut number = (optional(token(b'-')), whole, fraction, exponent, eof());
-    let (_number, _rest) = number.parse(bytes)?;
-    Ok(())
+    number.parse(bytes).map(|_| ())
 }

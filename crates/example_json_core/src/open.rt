@@ -4,6 +4,7 @@ use crate::grammar::{Item, read_number};
 use crate::node::{Document, Node};
 use crate::place::Place;
 use crate::texts::unescape;
+use combine::error::UnexpectedParse;
 use combine::nested::{Frame, Next};
 use combine::stream::Kind;
 use std::alloc::{AllocError, Global};
@@ -51,20 +52,14 @@ impl Open {
             (_, place) => return self.go_on(place.after_sign(sign)),
         };
         self.nodes.push(node)?;
-        let Some(inside) = place else {
+        let Some(place) = place else {
             return Ok(Next::Close(self.nodes));
         };
         let around = Open {
             place: self.place,
             ..Open::new(self.alloc)
         };
-        Ok(Next::Open(
-            around,
-            Open {
-                place: inside,
-                ..self
-            },
-        ))
+        Ok(Next::Open(around, Open { place, ..self }))
     }
 }
 
@@ -87,18 +82,16 @@ impl Frame for Open {
             b"null" => Node::Null,
             b"true" => Node::Bool(true),
             b"false" => Node::Bool(false),
-            number => match read_number(number) {
-                Ok(()) => Node::Number(bytes),
-                Err(error) if error.0 == Kind::End && sign.is_none() => {
-                    return self.go_on(Some(Place::Digits));
-                }
-                Err(_) => return self.go_on(None),
+            number => match (read_number(number), sign) {
+                (Ok(()), _) => Node::Number(bytes),
+                (Err(UnexpectedParse(Kind::End)), None) => return self.go_on(Some(Place::Digits)),
+                _ => return self.go_on(None),
             },
         };
         self.nodes.push(node)?;
         let place = self.place.after();
         match (place, sign) {
-            (Some(place), Some(sign @ (b',' | b':'))) => self.go_on(place.after_sign(sign)),
+            (Some(place), Some(sign)) => self.go_on(place.after_sign(sign)),
             _ => self.go_on(place),
         }
     }

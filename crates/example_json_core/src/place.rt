@@ -44,12 +44,13 @@ impl Place {
         }
     }
 
-    /// Returns the place after a comma or a colon, if it may come here.
+    /// Returns the place after a comma or a colon, if it may come here, or after a blank.
     pub fn after_sign(self, sign: u8) -> Option<Place> {
         match (self, sign) {
             (Place::ElementEnd, b',') => Some(Place::Element),
             (Place::ValueEnd, b',') => Some(Place::Name),
             (Place::NameEnd, b':') => Some(Place::Value),
+            (_, b' ' | b'\t' | b'\n' | b'\r') => Some(self),
             _ => None,
         }
     }
