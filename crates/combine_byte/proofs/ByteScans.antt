@@ -57,6 +57,8 @@ module _ (passes : ℕ → Bool) where
     none = subst (Longest (fails_all passes) (w.front ++ block)) (sym (length-append w.front block)) (longest_append (fails_all passes) w.front block (length block) w.none l);
   }
 
+  -- goal: overflow_add-result
+  -- goal: returns
   pub first_behind : (bs few fewer : List ℕ) (n : ℕ) → Without passes bs few → Without passes few fewer → FirstByte passes fewer n → FirstByte passes bs (length bs - length fewer + n)
   first_behind bs few fewer n v w p =
       let z = without_more bs few w.front fewer v w.all w.none in
@@ -83,6 +85,7 @@ module _ (passes : ℕ → Bool) where
       going (x ∷ bs) zero l e = (ap passes (ap (λ xs. head_or b xs) e) ∙ p, refl)
       going (x ∷ bs) (suc n) l e = (l.0, going bs n l.1 e)
 
+  -- goal: returns-then-holds
   pub first_here : (bs : List ℕ) (n b : ℕ) (rest : List ℕ) → Longest (fails_all passes) (take n bs) n → drop n bs ≡ b ∷ rest → passes b ≡ true → FirstByte passes bs n
   first_here bs n b rest l e p = record { longest = going bs n l e }
     where
@@ -161,6 +164,7 @@ module _ (needle : List ℕ) (f : ℕ) (ns bs rest : List ℕ) (is : needle ≡ 
     earlier : (j : ℕ) → j < n → BeginsWithBytes (these_bytes needle) (drop j rest) → ⊥
     earlier j h s = none_before (λ b. nat_eq b f) rest n j p.longest h (head_first (drop j rest) s)
 
+    -- goal: returns-then-begins
     pub needle_found : (i : ℕ) → i ≡ length bs - length (drop n rest) → BeginsWithBytes (these_bytes needle) (drop n rest) → FindsBytes (these_bytes needle) bs (Some i)
     needle_found i e s =
         let l = longest_within (fails_all (λ b. nat_eq b f)) rest n p.longest in

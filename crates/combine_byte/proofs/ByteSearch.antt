@@ -7,6 +7,7 @@ use Rattle.combine_byte.specs.Bytes.ByteSearch.{FindsBytes, encoded_bytes, in_by
 use Rattle.combine_byte.specs.declared.search.TakeRange.TheVariants.{Found, NotFound}
 
 module _ {T : Type 0} (encoded : T → List ℕ) (w : Wanted (List ℕ)) (size : T → ℕ) (us : List T) (bs : List ℕ) (e : bs ≡ encoded_bytes encoded us) where
+  -- goal: returns-in-Some
   pub looks_found : (i : ℕ) → FindsBytes w bs (Some i) → Searched size (in_bytes encoded w) us (Found i)
   looks_found i p = record { is = subst (λ bs. StandsFirst w bs i) e p.is }
 

@@ -22,6 +22,7 @@ below_seven n h =
     pow-le-pow_right p l
 
 -- a byte after the others, the highest first
+-- goal: returns-clause-value
 pub big_more : (bs : List ℕ) (b : ℕ) → big_endian (bs ++ (b ∷ [])) ≡ big_endian bs * 256 + b
 big_more [] b = omega arith
 big_more (x ∷ bs) b =
@@ -37,6 +38,7 @@ big_fits so_far count byte c h b =
     (omega (arith, p, h, b), omega (arith, m, h, b))
 
 -- the lowest first
+-- goal: returns-clause-value
 pub little_more : (n : ℕ) (bs : List ℕ) (b : ℕ) → little_endian_after n (bs ++ (b ∷ [])) ≡ little_endian_after n bs + b * 256 ^ (n + length bs)
 little_more n [] b = let e : n + 0 ≡ n = omega arith in let p = ap (λ k. b * 256 ^ k) e in omega (arith, p)
 little_more n (x ∷ bs) b =

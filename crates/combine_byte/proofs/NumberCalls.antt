@@ -31,6 +31,7 @@ module _ {P T R N S E : Type 0} (step : P → T → P) (s : Observers T R P E) (
   meant o p = into_begun (whole_number width value) ⊥ (Unit {0}) (AddsNothing {R = R}) (RefusesShort s) first state old o p
 
   -- all bytes were read
+  -- goal: clause-answers
   pub number_taken : (a : N) (new : View P T) (after : Failures) → Takes step width old new → a ≡ value (take width old.unread) → (counts_failures → after ≡ before) → Answers w (takes_number s width value) (run new after) (CommitOk a)
   number_taken a new after t e f = record { is = record { count = width; meant = meant (Accepted a width true) (t.enough, e, refl, refl); taken = t; state = d; failures = f } }
 
@@ -69,6 +70,7 @@ module _ {P T R N S E : Type 0} (step : P → T → P) (s : Observers T R P E) (
         let o = subst (λ (v : View P T). v.is_open ≡ false) n p.2 in
         record { is = rw p.0 (o, record { meant = meant (Refused false) (short, o, refl); leaves = same_leaves n; failures = kept b.failures }) }
 
+    -- goal: returns-then-eq-clause-answers
     pub number_cut : (result : ParseResult N E) (marked : View P T → Type 0) (place : P) → marked old → before.resets ≤ later.resets → EndsTooEarly counts_failures step s marked place mid new later after result → Answers w (takes_number s width value) (run new after) result
     number_cut result marked place m r b = by_case b.is
       where
@@ -81,6 +83,7 @@ module _ {P T R N S E : Type 0} (step : P → T → P) (s : Observers T R P E) (
             rw p.is (unreset w (takes_number s width value) (run new after) p.error p.kind_is (record { count = i + c; taken = k; state = d }) (omega arith))
 
   -- a byte could not be read
+  -- goal: returns-in-Err-clause-answers
   pub number_unread : (i : ℕ) (now new : View P T) (middle after : Failures) → Takes step i old now → before.reads ≤ middle.reads → (k : Kind) → no_token counts_failures step now new middle after k → (k ≡ kinds.End → ⊥) → (e : E) → s.kind e ≡ k → Answers w (takes_number s width value) (run new after) (CommitErr e)
   number_unread i now new middle after t r kinds.End u n e j = absurd (n refl)
   number_unread i now new middle after t r kinds.Read u n e j =

@@ -106,6 +106,7 @@ module _ {P T R Q E : Type 0} (w : World P T Distance E) (size : T → ℕ) (fil
       before b y = record { items = i; found = found; place = there; spelled = y; kind = refl }
 
       -- after a kept distance: all is read again
+      -- goal: returns-then-distance-gt0-clause-answers
       pub found_hands : (result : ParseResult R E) → (Takes w.step (p.is.0 + u.is.0) r.old v → HandsOutRange w.counts_failures w.step spells r.old r.new h r.after (p.is.0 + u.is.0) w.kind result) → w.fresh r.left → r.before.reads ≤ h.reads → r.before.resets ≤ h.resets → Answers w (kept size (searching size spells s) adds says) r result
       found_hands result t l x y = distance_hands_over w size (searching size spells s) adds says r d e (p.is.0 + u.is.0) h spells result (t taken) before l x y counts_failures
 
@@ -145,6 +146,7 @@ module _ {P T R Q E : Type 0} (w : World P T Distance E) (size : T → ℕ) (fil
     found_says observers v y (lengths.Split l) x h = record { unfit = Inner (torn l) refl; leaves = y ∙ p.is.2.taken.rest; says = h }
 
     module _ (v : View P T) (h : Failures) (k : Kind) (u : UnconsRange w.counts_failures w.step size spells mid v g h i (Err k)) where
+      -- goal: returns-then-may_grow-clause-answers
       pub found_waits : (state : Distance) (result : ParseResult R E) → k ≡ kinds.End → v.is_open ≡ true → (Takes w.step p.is.0 r.old v → KeepsItemDistance w.counts_failures w.step size r.old r.new h r.after p.is.0 w.kind state r.left result) → w.fresh state → r.before.reads ≤ h.reads → r.before.resets ≤ h.resets → Answers w (kept size (searching size spells s) adds says) r result
       found_waits state result j o t f x y = going (subst (no_range w.counts_failures w.step size spells mid v g h i) j u.is)
         where
@@ -199,6 +201,7 @@ module _ {P T R Q E : Type 0} (w : World P T Distance E) (size : T → ℕ) (fil
         skips = subst (λ k. MaySkip size s (drop p.is.0 r.old.unread) k) {x = u.count} {y = p.is.0 + u.count - p.is.0} (omega arith) (subst (λ us. MaySkip size s us u.count) unread (z.is.1 u.count u.taken.enough u.few));
       }
 
+      -- goal: returns-in-Ok-pass_up_to-clause-answers
       pub missing_keeps : (state : Distance) (result : ParseResult R E) → (Takes w.step (p.is.0 + u.count) r.old v → KeepsItemDistance w.counts_failures w.step size r.old r.new h r.after (p.is.0 + u.count) w.kind state r.left result) → w.fresh state → r.before.reads ≤ h.reads → r.before.resets ≤ h.resets → mid.is_open ≡ true → Answers w (kept size (searching size spells s) adds says) r result
       missing_keeps state result t f x y o =
           let a : Takes w.step (p.is.0 + u.count) r.old v = takes_more w.step p.is.0 u.count r.old mid v p.is.2.taken u.taken in
@@ -226,6 +229,7 @@ module _ {P T R Q E : Type 0} (w : World P T Distance E) (size : T → ℕ) (fil
       unfailed : w.counts_failures → r.after ≡ r.before
       unfailed y = sym k ∙ p.is.2.failures y
 
+      -- goal: returns-then-not-is_partial-clause-answers
       pub missing_refuses : (result : ParseResult R E) → RefusesAbsent w.kind w.heapless empty result → Answers w (kept size (searching size spells s) adds says) r result
       missing_refuses result t = record { is = by_result result t.is }
         where

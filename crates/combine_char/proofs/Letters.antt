@@ -13,6 +13,7 @@ one_of_two false true c h = refl
 one_of_two false false c h = absurd (cc)
 
 -- the first two ranges of letters are those of ASCII
+-- goal: returns-then-is_ascii_alphabetic
 pub ascii_letters : (c : ℕ) → is_ascii_alphabetic c ≡ true → true ≡ is_alphabetic c
 unfolding is_alphabetic alphabetic_ranges in_ranges
 ascii_letters c h = one_of_two (is_in_range 0x41 0x5A c) (is_in_range 0x61 0x7A c) (in_ranges (drop 2 alphabetic_ranges) c) h

@@ -79,6 +79,7 @@ module _ {P T R V S Z E : Type 0} (w : World P T S E) (fresh : Z → Type 0) (m 
 
 -- the same by the clause of such a call, in each mode
 module _ {P T R V S Z E : Type 0} (w : World P T S E) (fresh : Z → Type 0) (m : Meaning P T R E V S) (old mid : View P T) (f0 f1 : Failures) where
+  -- goal: returns-in-CommitOk-clause-answers
   pub begins_accepted : (v : V) → Starts w m old mid f0 f1 (CommitOk v) → AnswersBegunAgain (around w fresh) m old mid f0 f1 (CommitOk v)
   begins_accepted v p = record { answers = λ first z z' d. accepted_too w fresh m p.state p.left first z z' d old mid f0 f1 v p.answers }
 
@@ -92,6 +93,7 @@ module _ {P T R V S Z E : Type 0} (w : World P T S E) (fresh : Z → Type 0) (m 
   begins_failed e q p = record { answers = λ first z z' d. failed_too w fresh m p.state p.left first z z' d old mid f0 f1 e q p.answers }
 
   module _ (e : E) (q : (w.kind e ≡ kinds.End) × (mid.is_open ≡ true)) (p : Starts w m old mid f0 f1 (CommitErr e)) (marked : View P T → Type 0) (i : marked old) (new : View P T) (f2 : Failures) where
+    -- goal: returns-in-Ok-clause-answers
     pub begins_put_back : ResetTo w.counts_failures w.step marked mid new f1 f2 (Ok tt) → AnswersBegunAgain (around w fresh) m old new f0 f2 (CommitErr e)
     begins_put_back b = record { answers = λ first z z' d. put_back_too w fresh m p.state p.left first z z' d old mid f0 f1 e q p.answers marked i new f2 b }
 

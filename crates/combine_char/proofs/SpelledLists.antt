@@ -72,6 +72,7 @@ module _ {P T R V S E : Type 0} (w : World P T S E) (errors : Observers T R P E)
   given_answers = answers_alike w (token_list errors l' expected gives' matched (Unit {0}) adds') (token_list errors l expected gives matched heapless adds) (token_list_alike l' l k h gives' gives (λ v. ((alike v).1, (alike v).0)) errors expected expected matched (Unit {0}) heapless (λ p. infallible, λ p. tt) adds' adds) r
 
 module _ {P T R V S E : Type 0} (w : World P T S E) (errors : Observers T R P E) (expected : Option (Info T R)) (l l' : TokenList T) (h : IsListWithin l l') (k : IsListWithin l' l) (gives : V → Type 0) (matched : S → ℕ) (heapless : Type 0) (infallible : heapless) (adds adds' : List (ErrorItem T R) → Type 0) (r : CallRecord P T S) where
+  -- goal: returns-clause-answers
   pub spelled_answers : (result : ParseResult V E) → Answers w (token_list errors l expected gives matched heapless adds) r result → Answers w (token_list errors l' expected gives matched (Unit {0}) adds') r result
   spelled_answers = given_answers w errors expected l l' h k gives gives (λ v. (λ p. p, λ p. p)) matched heapless infallible adds adds' r
 

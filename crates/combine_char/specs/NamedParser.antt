@@ -25,6 +25,7 @@ module _ {P T R E V S : Type 0} (text : List ℕ) where
   pub named_means_one : (valid : S → Type 0) (m : Meaning P T R E V S) → MeansOne valid m → MeansOne valid (named m)
   named_means_one valid m h = record { whole = h.whole; rest = h.rest }
 
+  -- goal: returns-clause-same
   pub named_means_same : (m m' : Meaning P T R E V S) → MeansSame m m' → MeansSame (named m) (named m')
   named_means_same m m' h = record {
     whole = h.whole;

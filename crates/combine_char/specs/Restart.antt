@@ -13,6 +13,7 @@ module _ {P T R E V S Z : Type 0} where
   abbrev pub begun_again : Meaning P T R E V S → Meaning P T R E V Z
   begun_again m = stateless m.whole ⊥ m.heapless m.adds m.refuses
 
+  -- goal: clause-same
   pub begun_again_means_same : (m m' : Meaning P T R E V S) → MeansSame m m' → MeansSame (begun_again m) (begun_again m')
   begun_again_means_same m m' h = record {
     whole = h.whole;
@@ -45,5 +46,6 @@ module _ {P T R E A B S Z : Type 0} where
   pub whole_pair_means_one : {valid : S → Type 0} (valid' : Z → Type 0) (m : Meaning P T R E (A × B) S) → MeansOne valid m → MeansOne valid' (whole_pair m)
   whole_pair_means_one valid' m h = mapped_means_one valid' (begun_again m) is_second (stateless_means_one valid' m.whole ⊥ m.heapless m.adds m.refuses h.whole)
 
+  -- goal: returns-clause-same
   pub whole_pair_means_same : (m m' : Meaning P T R E (A × B) S) → MeansSame m m' → MeansSame (whole_pair m) (whole_pair m')
   whole_pair_means_same m m' h = mapped_means_same (begun_again m) (begun_again m') is_second (begun_again_means_same m m' h)

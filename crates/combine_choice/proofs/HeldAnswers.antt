@@ -67,6 +67,8 @@ module _ {P T R V S S' E : Type 0} (step : P → T → P) (errors : Observers T 
         ]
     answered (PeekErr e) p = tries_peeks w fresh' m refused (held pick m) inside outside held_tries refl refl e (λ v. refl) p (λ y. leaves y.state)
 
+    -- goal: returns-in-Left-clause-answers
+    -- goal: returns-in-Right-clause-answers
     pub held_answers : {m' : Meaning P T R E V S'} → held pick m ≡ m' → (answer : ParseResult V E) → Answers w m inside answer → Answers (world step errors counts_failures fresh') m' outside answer
     held_answers e answer p = subst (λ x. Answers (world step errors counts_failures fresh') x outside answer) e (answered answer p)
 
@@ -80,5 +82,7 @@ module _ {P T R V S S' E : Type 0} {fresh valid : S → Type 0} (pick : S' → O
   said_inside true given s from v w c e p = p
   said_inside false given s from v w c e p = inside_says s (pick given) from.is v w c e p
 
+  -- goal: returns-in-Left-clause-refuses
+  -- goal: returns-in-Right-clause-refuses
   pub held_reasons : {m' : Meaning P T R E V S'} → held pick m ≡ m' → (errors : Observers T R P E) (first : Bool) (given : S') (s : S) → Started fresh (pick given) s → (old new : View P T) (result : ParseResult V E) → ReasonedCall errors m first s old new result → ReasonedCall errors m' first given old new result
   held_reasons e errors first given s from old new result r = subst (λ x. ReasonedCall errors x first given old new result) e (reasoned_into (said_inside first given s from old new) r)

@@ -45,6 +45,7 @@ module _ {P T R E V S S' : Type 0} (pick : S' → Option S) where
     reasons h None d v w k e = (λ p. p, λ p. p)
     reasons h (Some s) d v w k e = h.reasons s d v w k e
 
+    -- goal: laws
     pub held_is_meaning : IsMeaning fresh valid m → IsMeaning fresh' valid' (held m)
     held_is_meaning h = record {
       whole = h.whole;
@@ -58,6 +59,7 @@ module _ {P T R E V S S' : Type 0} (pick : S' → Option S) where
     one h None k = h.whole
     one h (Some s) k = h.rest s k
 
+    -- goal: single
     pub held_means_one : MeansOne valid m → MeansOne valid' (held m)
     held_means_one h = record { whole = h.whole; rest = λ s k. one h (pick s) (holds s k) }
 
@@ -73,6 +75,8 @@ module _ {P T R E V S S' : Type 0} (pick : S' → Option S) where
   reasons_same m m' h None = h.refuses
   reasons_same m m' h (Some s) = h.refuses_from s
 
+  -- goal: returns-in-Left-clause-same
+  -- goal: returns-in-Right-clause-same
   pub held_means_same : (m m' : Meaning P T R E V S) → MeansSame m m' → MeansSame (held m) (held m')
   held_means_same m m' h = record {
     whole = h.whole;

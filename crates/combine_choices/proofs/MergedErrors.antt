@@ -36,6 +36,7 @@ module _ {X P T R E V S : Type 0} (s : Observers T R P E) (cmp : P → P → Ord
     first_commits e r = reasons_hand_on s.kind w.is_open first_meant (tried_refuses s cmp m reads first zs v w) e (λ a p. subst (λ qs. tried_refuses s cmp m reads first qs v w true a) (sym here) (inl p)) r
 
     -- the first one's peeked error
+    -- goal: loop-at-init
     pub makes_up_first : (t : Tracked E) → Reasoned {V = V} s.kind w.is_open first_meant (PeekErr t) → MakesUpError (tried_refuses s cmp m reads first zs v) ys w t.error
     makes_up_first t r = let own = reason_peeked s.kind w.is_open first_meant t r in record {
       commits = λ u a p. subst (λ qs. tried_refuses s cmp m reads first qs v u true a) (sym here) (inr (own.meant, p));
@@ -43,6 +44,7 @@ module _ {X P T R E V S : Type 0} (s : Observers T R P E) (cmp : P → P → Ord
     }
 
   -- no alternative is left
+  -- goal: returns
   pub makes_up_end : (whole : View P T → Bool → E → Type 0) (ys : List X) → ys ≡ [] → (w : View P T) (t : Tracked E) → MakesUpError whole ys w t.error → Reasoned {V = V} s.kind w.is_open (whole w) (PeekErr t)
   makes_up_end whole ys none w t g = reasons_peeked s.kind w.is_open (whole w) t (g.merged w t.error (subst (λ qs. merges s cmp m t.error w qs v w t.error) (sym none) (refl, refl)))
 
@@ -57,6 +59,7 @@ module _ {X P T R E V S : Type 0} (s : Observers T R P E) (cmp : P → P → Ord
     }
 
     -- the next was refused peeked as well
+    -- goal: loop-at-preserved
     pub makes_up_next : (answer : ParseResult V E) → Reasoned s.kind w.is_open (refusals (m x) v w) answer → (t : Tracked E) → AfterRefusal s (both_merged s cmp) so_far answer (PeekErr t) → MakesUpError whole ys w t.error
     makes_up_next (CommitOk a) r t h = absurd (let i = h.is in cc)
     makes_up_next (PeekOk a) r t h = absurd (let i = h.is in cc)

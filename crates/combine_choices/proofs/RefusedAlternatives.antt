@@ -183,6 +183,9 @@ module _ {X P T R V S E : Type 0} (step : P → T → P) (errors : Observers T R
     run_of left = record { first = first; state = s; left = left; old = now; new = new; before = f; after = after }
 
     -- an alternative's result is the choice's, unless it is a peeked refusal
+    -- goal: returns-in-CommitErr
+    -- goal: returns-in-CommitOk
+    -- goal: returns-in-PeekOk
     pub alternative_settles : Now → (result : ParseResult V E) → IsSettled result → CallsIt result → Answers outer (choice_of errors cmp m xs) whole_run result
     alternative_settles z (CommitOk v) i t = tries_commit_ok inner (λ s. s ≡ Peek) (m x) (first_alternative m ys) (choice_of errors cmp m xs) (run_of t.left) whole_run z refl refl v (t.ends (λ a. a)) t.answers
     alternative_settles z (PeekOk v) i t = tries_peek_ok inner (λ s. s ≡ Peek) (m x) (first_alternative m ys) (choice_of errors cmp m xs) (run_of t.left) whole_run z refl refl v (t.ends (λ a. a)) t.answers
@@ -211,6 +214,9 @@ module _ {X P T R V S E : Type 0} (step : P → T → P) (errors : Observers T R
         record { is = rw h.0 (λ f l. h.1 f, l) }
 
     -- the same after peeked refusals
+    -- goal: returns-in-CommitErr-after_refusal
+    -- goal: returns-in-CommitOk-after_refusal
+    -- goal: returns-in-PeekOk-after_refusal
     pub later_settles : Now → (so_far : E) (answer result : ParseResult V E) → IsSettled result → CallsIt answer → AfterRefusal errors (both_merged errors cmp) so_far answer result → Answers outer (choice_of errors cmp m xs) whole_run result
     later_settles z so_far (CommitOk v) result i t h = rw h.is (alternative_settles z (CommitOk v) tt t)
     later_settles z so_far (PeekOk v) result i t h = rw h.is (alternative_settles z (PeekOk v) tt t)
@@ -237,6 +243,7 @@ module _ {X P T R V S E : Type 0} (step : P → T → P) (errors : Observers T R
     ended_run = record { first = began; state = given; left = left; old = old; new = new; before = before; after = after }
 
     -- every alternative was refused peeked
+    -- goal: returns
     pub refusing_end : (t : Tracked E) (ys : List X) → ys ≡ [] → RefusedBefore inner errors cmp m xs began given old before ys new after (errors.kind t.error) → left ≡ Peek → Answers outer (choice_of errors cmp m xs) ended_run (PeekErr t)
     refusing_end t ys none h l = record { is = by_kind (errors.kind t.error) h.peeked }
       where

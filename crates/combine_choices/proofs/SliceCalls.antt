@@ -24,6 +24,7 @@ module _ {X P T R V S E : Type 0} (w : World P T (SliceState S) E) (errors : Obs
   BeginsSlice s first given v f = Tries w w.fresh (choice_of errors cmp m xs) refused (choice_of errors cmp m xs) false s v f first given v f
 
   -- from the kept state
+  -- goal: returns-in-At-clause-answers
   pub begins_kept : (s given : SliceState S) (first : Bool) → first ≡ false → given ≡ s → (v : View P T) (f : Failures) → BeginsSlice s first given v f
   begins_kept s given first e q v f = record {
     same = refl;
@@ -38,6 +39,7 @@ module _ {X P T R V S E : Type 0} (w : World P T (SliceState S) E) (errors : Obs
   }
 
   -- from the first alternative
+  -- goal: returns-in-Peek-clause-answers
   pub begins_first : (fresh valid : S → Type 0) → every m (IsMeaning fresh valid) xs → 0 < length xs → (s : S) → fresh s → (first : Bool) (given : SliceState S) → ((v : View P T) (o : Outcome V) → first_alternative m xs v o → begun (choice_of errors cmp m xs) first given v o) → (v : View P T) (f : Failures) → BeginsSlice (At 0 s) first given v f
   begins_first fresh valid h l s d first given g v f = record {
     same = refl;

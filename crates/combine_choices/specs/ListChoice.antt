@@ -183,6 +183,7 @@ module _ {X P T R E V S : Type 0} (errors : Observers T R P E) (cmp : P → P �
   from_peek : (xs : List X) (s : SliceState S) → s ≡ Peek → SameReasons (RefusesChoiceFrom errors cmp m xs s) (RefusesChoice errors cmp m xs)
   from_peek xs s d v w k e = rw d (λ p. record { is = p.is }, λ p. record { is = p.is })
 
+  -- goal: laws
   pub chosen_is_meaning : (fresh valid : S → Type 0) (xs : List X) → every m (IsMeaning fresh valid) xs → IsMeaning (λ s. s ≡ Peek) (slice_valid valid) (choice_of xs)
   chosen_is_meaning fresh valid xs h = record {
     whole = first_reads m fresh valid xs h;
@@ -307,6 +308,7 @@ module _ {X P T R E V S : Type 0} (m : X → Meaning P T R E V S) where
 
 module _ {X P T R E V S : Type 0} (errors : Observers T R P E) (cmp : P → P → Ordering) (m : X → Meaning P T R E V S) where
   -- one alternative is a choice of one
+  -- goal: returns
   pub one_starts : (x : X) → StartsSame (m x) (choice_of errors cmp m (x ∷ []))
   one_starts x = record {
     whole = λ v o. let i = either_last ((m x).whole) v o in (i.1, i.0);
@@ -317,6 +319,7 @@ module _ {X P T R E V S : Type 0} (errors : Observers T R P E) (cmp : P → P �
   }
 
   -- two choices are the choice of all their alternatives
+  -- goal: returns
   pub both_start : {S1 S2 : Type 0} {a : Meaning P T R E V S1} {b : Meaning P T R E V S2} (xs ys : List X) → StartsSame a (choice_of errors cmp m xs) → StartsSame b (choice_of errors cmp m ys) → StartsSame (either_of (both_merged errors cmp) a b) (choice_of errors cmp m (xs ++ ys))
   both_start {S1} {S2} {a} {b} xs ys h k =
       let p = first_alternative m xs in

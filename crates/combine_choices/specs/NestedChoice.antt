@@ -27,9 +27,11 @@ abbrev pub or_8 : {A B C D E F G H : Type 0} → A × B × C × D × E × F × G
 or_8 p = or_parser (or_parser (or_parser p.0 p.1) (or_parser p.2 p.3)) (or_parser (or_parser p.4 p.5) (or_parser p.6 p.7))
 
 module _ {P T R E V S S' : Type 0} {joins : E → E → E → Type 0} {f' : S → Type 0} {g' : S' → Type 0} {a : Meaning P T R E V S} {b : Meaning P T R E V S'} where
+  -- goal: laws
   pub nest_laws : {f : S → Type 0} {g : S' → Type 0} → IsMeaning f f' a → IsMeaning g g' b → IsMeaning (λ s. s ≡ Peek) (or_valid f' g') (either_of joins a b)
   nest_laws {f = f} {g = g} h k = or_is_meaning joins f f' g g' a b h k
 
+  -- goal: single
   pub nest_one : MeansOne f' a → MeansOne g' b → MeansOne (or_valid f' g') (either_of joins a b)
   nest_one h k = or_means_one joins (λ s. Unit {0}) f' (λ s. Unit {0}) g' a b h k
 

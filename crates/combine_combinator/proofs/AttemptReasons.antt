@@ -22,6 +22,8 @@ use Rattle.combine_combinator.specs.declared.combinator.types.TryState.{TryState
 
 module _ {P T S V E : Type 0} (counts_failures : Type 0) (step : P → T → P) (marked : View P T → Type 0) (old new : View P T) (before after : Failures) (kind : E → Kind) (fresh : S → Type 0) (state left : S) (refusal : Tracked E) where
   -- a refusal that is put back has its own error
+  -- goal: returns-else-not-refuses-clause-refuses
+  -- goal: returns-in-PeekErr-clause-refuses
   pub reasons_put_back : (is_open : Bool) (says : Bool → E → Type 0) (result : ParseResult V E) → PutsBack counts_failures step marked old new before after kind fresh state left refusal result → (v : View P T) → marked v → (new ≡ v → says false refusal.error) → Reasoned kind is_open says result
   reasons_put_back is_open says (CommitOk v) p u m q k x i = absurd p.is
   reasons_put_back is_open says (PeekOk v) p u m q k x i = absurd p.is

@@ -55,6 +55,9 @@ module _ {P T R V S E : Type 0} (w : World P T S E) (m : Meaning P T R E V S) wh
     pub reads : before.reads ≤ so_far.reads
     pub resets : before.resets ≤ so_far.resets
 
+  -- goal: returns-else-not-refuses-clause-answers
+  -- goal: returns-in-CommitOk-clause-answers
+  -- goal: returns-in-PeekErr-clause-answers
   pub reaches_tried_part : {d : ℕ} {first b : Bool} {state s : TryState S} {old now : View P T} {before so_far : Failures} {x : Unit {0}} {C : Type 0} {i j : C → View P T → Type 0} → b ≡ first → d ≡ (if b then 0 else state.distance) → s ≡ record { distance = 0; part = state.part } → PassesOver w.counts_failures w.step old now before so_far d (Ok x) → Passes i j before so_far → ReachesTriedPart d first state old before s.distance s.part now so_far
   reaches_tried_part e f g p q = record {
     distance = rw e at f;
@@ -93,6 +96,7 @@ module _ {P T R V S E : Type 0} (w : World P T S E) (m : Meaning P T R E V S) wh
       failures = λ s. a ∙ p.failures s ∙ z.failures s;
     }
 
+    -- goal: returns-in-CommitOk-clause-answers
     pub try_commit_ok : (v : V) → u.new ≡ r.new → u.after ≡ r.after → u.left ≡ record { distance = held; part = r.left } → Answers w m r (CommitOk v) → Answers (around w (IsFreshTry w.fresh)) (attempted w.step m) u (CommitOk v)
     try_commit_ok v n a l p = record { is = subst (Accepts (around w (IsFreshTry w.fresh)) (attempted w.step m) u v) (or_true (nat_lt 0 d)) (accepts v true n a l p.is) }
 
@@ -184,6 +188,7 @@ module _ {P T R V S E : Type 0} (w : World P T S E) (m : Meaning P T R E V S) wh
     try_put_back marked t (CommitErr e) back i h y n p = try_unreset (w.kind e) (CommitErr e) (e, refl, refl) h.is.0.is y n h.is.1 p.count p.taken
 
     -- a peeked refusal of the part
+    -- goal: returns-in-PeekErr-clause-answers
     pub try_peeks_back : (marked : View P T → Type 0) (t : Tracked E) (result : ParseResult V E) → Answers w m r (PeekErr t) → marked u.old → PutsBack w.counts_failures w.step marked r.new u.new r.after u.after w.kind w.fresh r.left u.left.part t result → r.before.resets ≤ r.after.resets → u.left.distance ≡ held → Answers (around w (IsFreshTry w.fresh)) (attempted w.step m) u result
     try_peeks_back marked t result p i h y n = try_put_back marked t result (try_peeks t p) i h y n (peeked_refusal w m r (w.kind t.error) p.is).leaves
 
@@ -241,6 +246,7 @@ module _ {P T R V S E : Type 0} (w : World P T S E) (m : Meaning P T R E V S) wh
             asks y h.1 (l ∙ ap (λ c. record { distance = c; part = r.left }) h.0) h.2
 
     -- need of more, whose distance is kept, or couldn't be measured
+    -- goal: returns-then-needs_more-clause-answers
     pub try_keeps_distance : (marked : View P T → Type 0) (e : E) (result : ParseResult V E) → (w.kind e ≡ kinds.End) × (r.new.is_open ≡ true) → Answers w m r (CommitErr e) → marked u.old → KeepsTokenDistance w.counts_failures w.step marked r.new u.new r.after u.after w.kind w.fresh (record { distance = held; part = r.left }) u.left e result → r.before.resets ≤ r.after.resets → Answers (around w (IsFreshTry w.fresh)) (attempted w.step m) u result
     try_keeps_distance marked e result q p i h y = by_measured h.distance h.measures h.keeps
       where
@@ -253,6 +259,7 @@ module _ {P T R V S E : Type 0} (w : World P T S E) (m : Meaning P T R E V S) wh
 
   module _ (d : ℕ) (u : CallRecord P T (TryState S)) (e : d ≡ (if u.first then 0 else u.state.distance)) where
     -- the kept distance couldn't be passed over
+    -- goal: returns-in-Err-clause-answers
     pub try_lost : (k j : Kind) (result : ParseResult V E) → j ≡ losing k → (x : E) × (result ≡ CommitErr x) × (w.kind x ≡ j) → PassesOver w.counts_failures w.step u.old u.new u.before u.after d (Err k) → IsFreshTry w.fresh u.left → Answers (around w (IsFreshTry w.fresh)) (attempted w.step m) u result
     try_lost k j result q i h l = rw i.1 (record { is = rw (i.2, q) (by_kind k h.is.0) })
       where

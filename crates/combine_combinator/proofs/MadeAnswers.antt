@@ -118,10 +118,12 @@ module _ {N Input V U Checkpoint T R P E : Type 0} (p : parser.Ghosts N Input U 
 
   module _ {input left : Input} {l : Made N U} {state : MadeState N U} {y : ParseResult V E} (d : kept l.parser) (g : CalledMade p i observers fresh input left l state y) where
     -- a call that resumes the kept parser
+    -- goal: returns-in-Kept-clause-answers
     pub resumes_made : Answers all_world all (call_from (Kept l) state (i.view input) (i.view left) (i.failures input) (i.failures left)) y
     resumes_made = answered d g (Kept l) (progress_here own_world ((p.meaning l.parser).rest l.state) ((p.meaning l.parser).rest l.state) (i.view input) (i.failures input) (λ v o x. x)) refl (λ x. x)
 
     -- a call that makes one
+    -- goal: returns-clause-answers
     pub begins_made : Lasts makes → IsMeaning fresh p.valid (p.meaning l.parser) → fresh l.state → makes (i.view input) l.parser → Answers all_world all (call_from Unmade state (i.view input) (i.view left) (i.failures input) (i.failures left)) y
     begins_made lasts h f m = answered d g Unmade (record { count = 0; taken = takes_none i.step (i.view input); resumes = resumes; failures = λ s. refl }) refl (λ x. absurd (h.found l.state (i.view input) f x))
       where
@@ -136,6 +138,7 @@ module _ {N Input V U Checkpoint T R P E : Type 0} (p : parser.Ghosts N Input U 
     begins_in_place old before e f lasts h k m = subst (λ v. Answers all_world all (call_from Unmade state v (i.view left) before (i.failures left)) y) e (subst (λ b. Answers all_world all (call_from Unmade state (i.view input) (i.view left) b (i.failures left)) y) f (begins_made lasts h k (subst (λ v. makes v l.parser) (sym e) m)))
 
     -- the error of its refusal
+    -- goal: returns-clause-refuses
     pub reasons_made : IsMeaning fresh p.valid (p.meaning l.parser) → fresh l.state → makes (i.view input) l.parser → ReasonedCall observers all false Unmade (i.view input) (i.view left) y
     reasons_made h f m = reasoned_into (λ k e x. record { parser = l.parser; made = m; said = (refusals_begin h l.state f (i.view input) (i.view left) k e).0 x }) (reasoned_meant g.answers g.refuses)
 

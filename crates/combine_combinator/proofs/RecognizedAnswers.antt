@@ -91,6 +91,7 @@ module _ {P T R A S E F Held : Type 0} (w : World P T S E) (held : F → Held) (
 
   -- the tokens that it took were read again, and collected
   module _ (into : F) (empty : held into ≡ earlier) (new : View P T) (later : Failures) where
+    -- goal: clause-answers
     pub recognize_commits : IsFreshCollecting w.fresh left → (a : A) (f : F) → (p : Answers w m call (CommitOk a)) → CollectsTokens w.counts_failures w.step held more heapless into old new between later p.is.count (Ok f) → Answers all_world all (call_around new later) (CommitOk f)
     recognize_commits fresh a f p c =
         let x = p.is in
@@ -164,6 +165,7 @@ module _ {P T R A S E F Held : Type 0} (w : World P T S E) (held : F → Held) (
       }
 
   -- an error that is need of more, with the tokens collected by then
+  -- goal: returns-in-Ok-collect_since-clause-answers
   pub recognize_asks : (into : F) → held into ≡ earlier → (new : View P T) (later : Failures) (f : F) → left ≡ record { collected = Tokens f; part = stopped } → (e : E) → (w.kind e ≡ kinds.End) × (mid.is_open ≡ true) → Answers w m call (CommitErr e) → ((x : Asks w m call) → CollectsTokens w.counts_failures w.step held more heapless into old new between later x.count (Ok f)) → Answers all_world all (call_around new later) (CommitErr e)
   recognize_asks into empty new later f keeps e i p c = needs w (IsFreshCollecting w.fresh) m all call (call_around new later) e i p refl (λ x. recognize_waits into empty new later f keeps x (c x))
 

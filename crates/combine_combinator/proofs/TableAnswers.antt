@@ -57,6 +57,8 @@ module _ {P T R A B S Z E : Type 0} (w : World P T S E) (fresh : Z → Type 0) (
   again false e = rw e (resumes_none (ByTable f m.whole) old)
 
   -- accepted, and put back: accepted peeked
+  -- goal: returns-in-CommitOk-clause-answers
+  -- goal: returns-in-PeekOk-clause-answers
   pub table_accepts : (a : A) (k : Bool) (b : B) → ((n : ℕ) → f (Accepted a n k) ≡ Accepted b 0 false) → Accepts w m inner a k → put_back → Answers (around w fresh) whole outer (PeekOk b)
   table_accepts a k b t p h = record {
     is = record {
@@ -115,6 +117,7 @@ module _ {P T R A B S Z E : Type 0} (w : World P T S E) (fresh : Z → Type 0) (
       by_case (inl b) = subst (Answers (around w fresh) whole outer) (sym b.is) (g (b.at old i, b.failures))
       by_case (inr b) = let c = b.resets in subst (Answers (around w fresh) whole outer) (sym b.is) (record { is = rw b.kind_is (omega arith, record { count = n + b.moves.count; taken = takes_more w.step n b.moves.count old mid new t b.moves.taken; state = d }) })
 
+  -- goal: returns-then-needs_more-clause-answers
   pub table_asks_back : (e : E) → f Undecided ≡ Undecided → (w.kind e ≡ kinds.End) × (mid.is_open ≡ true) → Answers w m inner (CommitErr e) → f0.resets ≤ f1.resets → (marked : View P T → Type 0) → marked old → (result : ParseResult B E) → PutBackFor w.counts_failures w.step w.kind marked mid new f1 f2 (CommitErr e) result → Answers (around w fresh) whole outer result
   table_asks_back e t q p x marked i result b =
       let y = need_of_more w m inner e q.0 (sym (same_mark w m inner e p) ∙ q.1) p in
@@ -131,6 +134,8 @@ module _ {P T R A B S Z E : Type 0} (w : World P T S E) (fresh : Z → Type 0) (
   table = by_table f m adds refuses
 
   -- accepted, with the stream left where the part left it
+  -- goal: returns-in-CommitOk-clause-answers
+  -- goal: returns-in-PeekOk-clause-answers
   pub table_takes : (a : A) (k : Bool) (b : B) → ((n : ℕ) → f (Accepted a n k) ≡ Accepted b n k) → Accepts w m called a k → Accepts (around w fresh) table as_is b k
   table_takes a k b t y = record {
     count = y.count;
@@ -147,6 +152,7 @@ module _ {P T R A B S Z E : Type 0} (w : World P T S E) (fresh : Z → Type 0) (
   refused_too k t y = record { meant = subst (begun table first z old) t (read w fresh m f adds refuses s left first z z' d old mid mid f0 f1 f1 first (Refused k) y.meant); leaves = left_by y.leaves; failures = y.failures }
 
   -- an error that isn't need of more is unchanged, if refusals are
+  -- goal: returns-else-needs_more-clause-answers
   pub table_fails : (e : E) → f (Refused true) ≡ Refused true → ((w.kind e ≡ kinds.End) × (mid.is_open ≡ true) → ⊥) → Answers w m called (CommitErr e) → Answers (around w fresh) table as_is (CommitErr e)
   table_fails e t q p = settles w fresh m table called as_is e q p (record {
     is_open = refl;
@@ -188,6 +194,9 @@ table_reasons m f adds refuses false z old new h = h
 
 -- the error of a result given with the stream put back, or with a stream that couldn't be
 module _ {P T V E : Type 0} {counts_failures : Type 0} {step : P → T → P} {kind : E → Kind} {marked : View P T → Type 0} {old new : View P T} {before after : Failures} {answer result : ParseResult V E} (says : Bool → E → Type 0) where
+  -- goal: returns-in-CommitOk-clause-refuses
+  -- goal: returns-in-PeekOk-clause-refuses
+  -- goal: returns-else-not-refuses-clause-refuses
   pub back_reasons : (v : View P T) → marked v → PutBackFor counts_failures step kind marked old new before after answer result → (new ≡ v → Reasoned kind new.is_open says answer) → Reasoned kind new.is_open says result
   back_reasons v i h r = by_case h.is
     where

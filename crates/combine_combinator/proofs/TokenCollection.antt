@@ -25,6 +25,7 @@ module _ {T Held : Type 0} (more : Held → T → Held) where
       rw (a, b, e) refl
 
   -- the tokens before a cut, and those after it
+  -- goal: clause-answers
   pub collected_on : (h : Held) (n i : ℕ) (us vs x : List T) → n ≤ length us → vs ≡ drop n us → all_more more (all_more more h (take n us)) (take i (vs ++ x)) ≡ all_more more h (take (n + i) (us ++ x))
   collected_on h n i us vs x l e =
       let a = take-add n i (us ++ x) in
@@ -55,6 +56,7 @@ module _ {P T F Held : Type 0} (counts_failures : Type 0) (step : P → T → P)
   collect_unreset v old new f g n t k r = record { is = (rw r.0 r.2, moves_more step n v old new t r.1) }
 
   -- it was put back to v, and read again
+  -- goal: returns-clause-collects
   pub collect_again : (v now new : View P T) (f b g : Failures) (n : ℕ) → now ≡ v → (counts_failures → b ≡ f) → f.reads ≤ b.reads → f.resets ≤ b.resets → (result : Result F Kind) → CollectsTokens counts_failures step held more heapless into now new b g n result → CollectsTokens counts_failures step held more heapless into v new f g n result
   collect_again v now new f b g n e s i j result c = record { is = by_result result (subst (λ u. collects_tokens counts_failures step held more heapless into u new b g n result) e c.is) }
     where

@@ -168,6 +168,9 @@ module _ {P T V : Type 0} (step : P → T → P) where
     pub attempted_means_one : (valid : S → Type 0) (m : Meaning P T R E V S) → MeansOne valid m → MeansOne (HasValidTry valid) (attempted m)
     attempted_means_one valid m h = record { whole = attempts_is_single 0 m.whole h.whole; rest = λ s k. attempts_is_single s.distance (m.rest s.part) (h.rest s.part k) }
 
+    -- goal: returns-clause-same
+    -- goal: returns-else-not-refuses-clause-same
+    -- goal: returns-in-CommitOk-clause-same
     pub attempted_means_same : (m m' : Meaning P T R E V S) → MeansSame m m' → MeansSame (attempted m) (attempted m')
     attempted_means_same m m' h = record {
       whole = attempts_both 0 m.whole m'.whole h.whole;

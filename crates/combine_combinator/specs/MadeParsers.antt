@@ -178,6 +178,9 @@ module _ {P T R E V N U : Type 0} (makes : MakesWhere P T N) (makable : N → Ty
       reasons Unmade d v w k e = (λ p. p, λ p. p)
       reasons (Kept l) d v w k e = absurd (cc)
 
+      -- goal: returns-clause-answers
+      -- goal: returns-clause-refuses
+      -- goal: returns-in-Kept-clause-answers
       pub made_is_meaning : IsMeaning is_unmade (valid_made kept valid) made_meaning
       made_is_meaning = record { whole = whole_is_reading; rest = rest_is_reading; start = starts; found = finds; reasons = reasons }
 

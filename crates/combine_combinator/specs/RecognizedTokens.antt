@@ -122,6 +122,7 @@ module _ {P T A F Held : Type 0} (held : F → Held) (none : Held) (more : Held 
       rest = λ s k. recognizes_is_single (collected_by held none s.collected) (m.rest s.part) (h.rest s.part k);
     }
 
+    -- goal: clause-same
     pub recognized_collecting_means_same : {m m' : Meaning P T R E A S} → MeansSame m m' → MeansSame (recognized_collecting heapless m) (recognized_collecting heapless m')
     recognized_collecting_means_same {m} {m'} h = record {
       whole = both_ways none m.whole m'.whole h.whole;

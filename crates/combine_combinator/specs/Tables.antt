@@ -120,6 +120,7 @@ module _ {P T A B : Type 0} (f : Outcome A → Outcome B) where
     table_is_single : (r : Reading P T A) → IsSingle r → IsSingle (ByTable r)
     table_is_single r h = record { one = λ v o o' w w'. ap shape w.is ∙ t.shapes w.inner w'.inner (h.one v w.inner w'.inner w.meant w'.meant) ∙ sym (ap shape w'.is) }
 
+    -- goal: laws
     pub table_is_meaning : {R E S Z : Type 0} {fresh valid : S → Type 0} (fresh_too valid_too : Z → Type 0) {m : Meaning P T R E A S} (adds : List (ErrorItem T R) → Type 0) (refuses : Refusing P T E) → IsMeaning fresh valid m → IsMeaning fresh_too valid_too (by_table m adds refuses)
     table_is_meaning fresh_too valid_too {m} adds refuses h = record {
       whole = table_is_reading m.whole h.whole;
@@ -129,12 +130,14 @@ module _ {P T A B : Type 0} (f : Outcome A → Outcome B) where
       reasons = λ z d v w k e. (λ x. x, λ x. x);
     }
 
+    -- goal: single
     pub table_means_one : {R E S Z : Type 0} {valid : S → Type 0} (valid_too : Z → Type 0) {m : Meaning P T R E A S} (adds : List (ErrorItem T R) → Type 0) (refuses : Refusing P T E) → MeansOne valid m → MeansOne valid_too (by_table m adds refuses)
     table_means_one valid_too {m} adds refuses h = record { whole = table_is_single m.whole h.whole; rest = λ z d. table_is_single m.whole h.whole }
 
   both_ways : (r r' : Reading P T A) → ((v : View P T) (o : Outcome A) → r v o ↔ r' v o) → (v : View P T) (o : Outcome B) → ByTable r v o ↔ ByTable r' v o
   both_ways r r' h v o = (λ w. record { inner = w.inner; meant = (h v w.inner).0 w.meant; is = w.is }, λ w. record { inner = w.inner; meant = (h v w.inner).1 w.meant; is = w.is })
 
+  -- goal: returns-clause-same
   pub table_means_same : {R E S Z : Type 0} {m m' : Meaning P T R E A S} (adds adds' : List (ErrorItem T R) → Type 0) (refuses refuses' : Refusing P T E) → MeansSame m m' → ((is : List (ErrorItem T R)) → adds is ↔ adds' is) → SameReasons refuses refuses' → MeansSame (by_table {Z = Z} m adds refuses) (by_table m' adds' refuses')
   table_means_same {m} {m'} adds adds' refuses refuses' h a r = record {
     whole = both_ways m.whole m'.whole h.whole;

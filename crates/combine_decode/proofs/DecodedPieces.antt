@@ -102,9 +102,11 @@ module _ {F P T R E V S : Type 0} (makes : F → P → Type 0) (meaning : P → 
           let b = ap length all_fed in
           omega (arith, length-append (concatenated (take n pieces)) piece, length-append (concatenated (take (n + 1) pieces)) (concatenated (drop (n + 1) pieces)))
 
+      -- goal: pieces-preserved
       pub decoder_goes_on_at : FeedsMore makes meaning old new piece vs us (Ok ends.More) → DecoderWasFed (concatenated (take (n + 1) pieces)) us new
       decoder_goes_on_at h = subst (λ l. DecoderWasFed l us new) fed_next (decoder_was_fed (concatenated (take n pieces)) vs old far piece new h.is.0 h.is.1 law us h.is.2 h.is.3)
 
+      -- goal: returns-in_default
       pub decoder_ends_at : (e : BatchEnd) → e ≢ ends.More → FeedsMore makes meaning old new piece vs us (Ok e) → (b : Batch V) → b.messages.items ≡ us → b.end ≡ e → DecodesPieces (made_reading meaning (makes from)) pieces (Ok b)
       decoder_ends_at e d h b i j =
           let message = made_reading meaning (makes from) in

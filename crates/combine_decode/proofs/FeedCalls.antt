@@ -50,6 +50,7 @@ module _ {F P T R E V S : Type 0} (makes : F → P → Type 0) (meaning : P → 
         absurd (⊎_elim (λ i. let e : 2 ^ 64 ≤ old.course.seen.position + length old.course.seen.unread + length piece = i in omega arith) (λ i. true≢false (rw s.session_limit at i)) (fed_now l s mid (Err session_errors.TooLong) h).0.why))
 
     module _ (a : Answer V UnexpectedParse) (h : Feeds meaning valid old.course mid piece true (Ok a)) where
+      -- goal: returns-in-Ok-drain
       pub gives_batch : (b : Batch V) → new.phase ≡ phase_after b.end → ((tokens : List T) → AnswersMessage (made_reading meaning (makes old.maker)) meaning tokens mid a → all ≡ length tokens → GivesMessages (made_reading meaning (makes old.maker)) meaning tokens new.course new.waiting b × (new.course.limit ≡ mid.limit)) → Decodes makes meaning old new piece (Ok b)
       gives_batch b p f = running_now (Ok b) (λ l s.
           let message = made_reading meaning (makes old.maker) in

@@ -42,9 +42,11 @@ module _ {T V : Type 0} (message : Reading ℕ T V) where
   divides_append l [] ws behind last d e = subst (λ us. DividesMessages message us ws last) (sym d) e
   divides_append l (v ∷ vs) ws behind last d e = (d.0, d.1, d.2, d.3, divides_append (drop d.0 l) vs ws behind last d.4 e)
 
+  -- goal: returns
   pub further_messages : IsReading message → (l x : List T) (vs ws : List V) (behind last : List T) → DividesMessages message l vs behind → DividesMessages message (behind ++ x) ws last → DividesMessages message (l ++ x) (vs ++ ws) last
   further_messages law l x vs ws behind last d e = divides_append (l ++ x) vs ws (behind ++ x) last (divides_longer law l vs behind x d) e
 
+  -- goal: returns
   pub go_on : IsReading message → GoOn message
   go_on law l vs behind d x ws e n h = record {
     behind = h.behind;
@@ -122,9 +124,11 @@ module _ {T V : Type 0} (message : Reading ℕ T V) where
       same_number : n ≡ m
       same_number = h.number ∙ ap length left_the_same ∙ sym i.number
 
+    -- goal: returns
     pub are_one : AreOne message
     are_one = record { blocks = same_blocks; count = counted; end = same_end; number = same_number }
 
+    -- goal: returns
     pub cuts_agree : CutsAgree message
     cuts_agree ps qs b c e h i =
         let j : Messages message (concatenated ps) c.messages.items c.end i.is.0 = subst (λ l. Messages message l c.messages.items c.end i.is.0) (sym e) i.is.1 in

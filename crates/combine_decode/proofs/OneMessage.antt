@@ -75,6 +75,7 @@ module _ {P T R E V S : Type 0} (meaning : P → Meaning ℕ T R E V S) where
     parses_told : (a : Answer V UnexpectedParse) → session.ParsesPiece meaning valid c new piece true (Ok a) → AnswersMessage message meaning (l ++ piece) new a
     parses_told a h = record { is = tells a h; is_open = stays_open a h }
 
+    -- goal: returns
     pub feeds_told : (a : Answer V UnexpectedParse) → Feeds meaning valid c new piece true (Ok a) → AnswersMessage message meaning (l ++ piece) new a
     feeds_told a h = parses_told a (fed_now (Ok a) h).1
 
@@ -93,6 +94,7 @@ module _ {P T R E V S : Type 0} (meaning : P → Meaning ℕ T R E V S) where
       by_its_stage stages.Failed i = absurd (let e = i.0 in cc)
 
   -- a session that begins again with a parser that was made has the unread tokens of a message, and no others
+  -- goal: returns-in-Ok
   pub again_told : (valid : S → Type 0) (determined : P → Type 0) (makes : P → Type 0) (p : P) (old new : Course P T S) (a : Answer V UnexpectedParse) → makes p → old.seen.is_open ≡ true → BeginsAgain meaning valid determined p old new (Ok a) → AnswersMessage (made_reading meaning makes) meaning old.seen.unread new a × (new.limit ≡ old.limit)
   again_told valid determined makes p old new a m o h = by_its_stage old.stage h.is
     where

@@ -5,6 +5,7 @@ use Rattle.combine_base.specs.Error.Errors.{Observers, Only, Added, Unstored, Ad
 
 module _ {T R P E : Type 0} (s : Observers T R P E) where
   -- one more of a list
+  -- goal: loop-item-preserved
   pub says_more : (is : List (ErrorItem T R)) (i : ErrorItem T R) (e e' e'' : E) → AddsItems s (Unit {0}) (λ x. x ≡ is) e e' → AddsItems s (Unit {0}) (Only i) e' e'' → AddsItems s (Unit {0}) (λ x. x ≡ is ++ i ∷ []) e e''
   says_more is i e e' e'' a b = record { is = both a.is b.is }
     where

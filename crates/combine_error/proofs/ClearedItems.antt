@@ -11,6 +11,7 @@ module _ {T R : Type 0} where
   pub cleared_all : (n : ℕ) (xs : List (Error T R)) → length xs ≤ n → cleared_from n xs ≡ xs
   cleared_all n xs h = rw (take_all n xs h, drop_all n xs h) (append-nil xs)
 
+  -- goal: returns
   pub cleared_said : (n : ℕ) (xs : List (Error T R)) → map said (cleared_from n xs) ≡ take n (map said xs) ++ others (drop n (map said xs))
   cleared_said zero xs = others_said xs
   cleared_said (suc n) [] = refl

@@ -98,6 +98,7 @@ module _ {T R P E : Type 0} (s : Observers T R P E) where
         ap (λ l. take (length is) l ++ others (drop (length is) l)) x ∙ ap (λ l. l ++ others (drop (length is) (is ++ r.0))) (front is r.0) ∙ ap (λ l. is ++ others l) (back is r.0) ∙ sym y
 
     -- the items of `expected`
+    -- goal: returns-clause-says
     pub says_in_place : (heapless : Type 0) (adds : List (ErrorItem T R) → Type 0) (i : ErrorItem T R) (kept : ℕ) (e0 e1 e2 e3 : E) → kept ≡ length (s.items e0) → AddsItems s heapless adds e0 e1 → ClearedAfter s kept e1 e2 → AddsItems s (Unit {0}) (Only i) e2 e3 → AddsItems s heapless (ReplacesExpected adds i) e0 e3
     says_in_place heapless adds i kept e0 e1 e2 e3 k a c b = by_first a.is
       where
@@ -136,6 +137,7 @@ module _ {T R P E : Type 0} (s : Observers T R P E) where
         by_first (inr u) = memory_first u
 
   -- the items of `message`
+  -- goal: returns-clause-says
   pub says_and_then : (heapless : Type 0) (adds : List (ErrorItem T R) → Type 0) (i : ErrorItem T R) (e0 e1 e2 : E) → AddsItems s heapless adds e0 e1 → AddsItems s (Unit {0}) (Only i) e1 e2 → AddsItems s heapless (WithOneMore adds i) e0 e2
   says_and_then heapless adds i e0 e1 e2 a b = by_first a.is b.is
     where

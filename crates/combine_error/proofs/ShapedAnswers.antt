@@ -36,6 +36,7 @@ module _ {P T R A S E : Type 0} (s : Observers T R P E) (step : P → T → P) (
   same_kind : (e e' : E) → s.kind e' ≡ s.kind e → Answers here other r (CommitErr e) → Answers here other r (CommitErr e')
   same_kind e e' i p = record { is = subst (fails here other r) (sym i) p.is }
 
+  -- goal: returns-clause-answers
   pub adds_on_refusal_answers : (says : List (ErrorItem T R) → Type 0) (x y : ParseResult A E) → AddsOnRefusal s r.new.is_open says x y → Answers here m r x → Answers here other r y
   adds_on_refusal_answers says x y t p = by_case x y t.is (answers_alike here other m (saying_alike m adds f) r x p)
     where
@@ -56,6 +57,7 @@ module _ {P T R A S E : Type 0} (s : Observers T R P E) (step : P → T → P) (
       by_case (PeekOk v) y i p = rw i p
       by_case (PeekErr t) y i p = rw i p
 
+  -- goal: returns-clause-answers
   pub clears_expected_answers : (x y : ParseResult A E) → ClearsExpected s r.new.is_open x y → Answers here m r x → Answers here other r y
   clears_expected_answers x y t p = by_case x y t.is (answers_alike here other m (saying_alike m adds f) r x p)
     where
@@ -89,6 +91,7 @@ module _ {T R P E : Type 0} (s : Observers T R P E) (is_open : Bool) (refuses : 
 
   module _ {V : Type 0} where
     -- the errors of refusals with an added item
+    -- goal: returns-clause-refuses
     pub adds_on_refusal_reasons : (i : ErrorItem T R) (x y : ParseResult V E) → AddsOnRefusal s is_open (Only i) x y → Reasoned s.kind is_open part x → Reasoned s.kind is_open (refuses_with_item s i refuses old new) y
     adds_on_refusal_reasons i x y t p = by_case x y t.is p
       where
@@ -110,6 +113,7 @@ module _ {T R P E : Type 0} (s : Observers T R P E) (is_open : Bool) (refuses : 
         by_case (PeekErr t) y j p = rw j (reasons_peeked s.kind is_open (refuses_with_item s i refuses old new) t (reason_peeked s.kind is_open part t p))
 
     -- and of those without the expected items
+    -- goal: returns-clause-refuses
     pub clears_expected_reasons : (x y : ParseResult V E) → ClearsExpected s is_open x y → Reasoned s.kind is_open part x → Reasoned s.kind is_open hushed_part y
     clears_expected_reasons x y t p = by_case x y t.is p
       where

@@ -24,6 +24,7 @@ module _ {P T : Type 0} (step : P → T → P) where
   span_passes m n f g p = record { marks = λ c v h. record { inner = h.inner; stands = p.marks c h.inner h.stands; is = h.is }; reads = p.reads; resets = p.resets }
 
   module _ (counts_failures : Type 0) (u v : View P T) (f g : Failures) where
+    -- goal: returns-clause-read
     pub span_uncons : (r : Result T Kind) → Uncons counts_failures step u v f g r → Uncons counts_failures (span_step step) (spanned_view u) (spanned_view v) f g r
     span_uncons r h = record { is = by_result r h.is }
       where

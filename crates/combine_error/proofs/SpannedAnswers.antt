@@ -46,6 +46,7 @@ module _ {T R Q E : Type 0} (cmp : Q → Q → Ordering) (s : Observers T R (Spa
     abbrev here : World (Span Q) T S E
     here = world step s counts_failures fresh
 
+    -- goal: returns-clause-answers
     pub spanned_answers : (x y : ParseResult A E) → SpansAnswer cmp s span x y → Answers here m r x → Answers here (spanned cmp s step m) r y
     spanned_answers x y t p = answers_alike here (spanned cmp s step m) m (record { whole = λ v o. (λ p. p, λ p. p); rest = λ s v o. (λ p. p, λ p. p); lost = λ s v. (λ p. p, λ p. p); keeps = (λ p. p, λ p. p); puts_back = (λ p. p, λ p. p); heapless = (λ p. p, λ p. p) }) r y (by_case x y t.is p)
       where
@@ -80,6 +81,7 @@ module _ {T R Q E : Type 0} (cmp : Q → Q → Ordering) (s : Observers T R (Spa
     abbrev around : World (Span Q) T S E
     around = world step s counts_failures fresh
 
+    -- goal: returns-clause-refuses
     pub spanned_reasons : (x y : ParseResult A E) → SpansAnswer cmp s (record { start = from.start; end = to.end }) x y → Answers around m r x → ReasonedCall s m r.first r.state r.old r.new x → ReasonedCall s (spanned cmp s step m) r.first r.state r.old r.new y
     spanned_reasons x y t p q = by_case x y (rw (begins, ends) at t).is p q
       where

@@ -29,12 +29,14 @@ module _ {P T R E A S : Type 0} where
   abbrev pub saying : Meaning P T R E A S → (List (ErrorItem T R) → Type 0) → (Refusing P T E → Refusing P T E) → Meaning P T R E A S
   saying m adds f = record { whole = m.whole; rest = m.rest; lost = m.lost; keeps = m.keeps; puts_back = m.puts_back; heapless = m.heapless; adds = adds; refuses = f m.refuses; refuses_from = λ s. f (m.refuses_from s) }
 
+  -- goal: laws
   pub saying_is_meaning : (fresh valid : S → Type 0) (m : Meaning P T R E A S) (adds : List (ErrorItem T R) → Type 0) (f : Refusing P T E → Refusing P T E) → IsMonotone f → IsMeaning fresh valid m → IsMeaning fresh valid (saying m adds f)
   saying_is_meaning fresh valid m adds f i h = record { whole = h.whole; rest = h.rest; start = h.start; found = h.found; reasons = λ s d. made_same f i (m.refuses_from s) m.refuses (h.reasons s d) }
 
   pub saying_means_one : (valid : S → Type 0) (m : Meaning P T R E A S) (adds : List (ErrorItem T R) → Type 0) (f : Refusing P T E → Refusing P T E) → MeansOne valid m → MeansOne valid (saying m adds f)
   saying_means_one valid m adds f h = record { whole = h.whole; rest = h.rest }
 
+  -- goal: returns-clause-same
   pub saying_means_same : (m m' : Meaning P T R E A S) (adds adds' : List (ErrorItem T R) → Type 0) (f : Refusing P T E → Refusing P T E) → IsMonotone f → MeansSame m m' → ((is : List (ErrorItem T R)) → adds is ↔ adds' is) → MeansSame (saying m adds f) (saying m' adds' f)
   saying_means_same m m' adds adds' f i h a = record {
     whole = h.whole;

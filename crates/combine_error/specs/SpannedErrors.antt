@@ -67,6 +67,7 @@ module _ {T R Q E : Type 0} (cmp : Q → Q → Ordering) (s : Observers T R (Spa
       pub spanned_means_one : {valid : S → Type 0} {m : Meaning (Span Q) T R E A S} → MeansOne valid m → MeansOne valid (spanned m)
       spanned_means_one h = record { whole = h.whole; rest = h.rest }
 
+      -- goal: returns-clause-same
       pub spanned_means_same : {m m' : Meaning (Span Q) T R E A S} → MeansSame m m' → MeansSame (spanned m) (spanned m')
       spanned_means_same {m} {m'} h = record {
         whole = h.whole;

@@ -11,6 +11,7 @@ use Rattle.combine_facts.specs.Reads.{Reads, either, maybe}
 
 module _ {P T A : Type 0} where
   -- an alternative, and the meaning of the later ones
+  -- goal: returns
   pub either_reads : {r q : Reading P T A} {says tells : List T → A → Type 0} → Reads r says → Reads q tells → Reads (OrElse r q) (either says tells)
   either_reads {r} {q} {says} {tells} h g = record { one = at }
     where
@@ -18,6 +19,7 @@ module _ {P T A : Type 0} where
       at v a n k (Here w firm) = let i = h.one v a n k w in (i.0, inl i.1)
       at v a n k (Later denied w) = let i = g.one v a n k w in (i.0, inr i.1)
 
+  -- goal: returns
   pub or_reads : {r q : Reading P T A} {says tells : List T → A → Type 0} → Reads r says → Reads q tells → Reads (OrElse r (OrElse q refused)) (either says tells)
   or_reads {q} {tells} h g = either_reads h (record { one = at })
     where
@@ -26,6 +28,7 @@ module _ {P T A : Type 0} where
       at v a n k (Later denied w) = absurd (cc)
 
   -- a part, or no value
+  -- goal: returns
   pub optional_reads : {r : Reading P T A} {says : List T → A → Type 0} → Reads r says → Reads (OrElse (mapped_reading r is_some) nothing_taken) (maybe says)
   optional_reads {r} {says} h = record { one = at }
     where

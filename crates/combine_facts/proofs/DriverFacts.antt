@@ -40,11 +40,13 @@ module _ {P T R A S E : Type 0} {w : World P T S E} {m : Meaning P T R E A S} wh
       (take x.1.count old.unread, i.1, sym (ap (λ v. take x.1.count old.unread ++ v.unread) x.1.taken.rest ∙ take-append-drop x.1.count old.unread))
 
   -- `parse`: exactly those are taken, and any fact that follows holds of its result
+  -- goal: returns
   pub parse_reads : {s : Observers T R P E} {I : Type 0} {old : View P T} {new : A × I → View P T} {before : Failures} {after : A × I → Failures} {says : List T → A → Type 0} {holds : A × I → Type 0} (result : Result (A × I) E) → Reads m.whole says → ((p : A × I) → result ≡ Ok p → StartResults w m s old (new p) before (after p) (Ok p.0)) → ((p : A × I) (xs : List T) → says xs p.0 → old.unread ≡ xs ++ (new p).unread → holds p) → IfOk result holds
   parse_reads (Ok p) h z f = let x = start_reads h (z p refl) in f p x.0 x.1 x.2
   parse_reads (Err e) h z f = tt
 
 -- `parse_pieces`: the pieces begin so, and any fact that follows holds of an acceptance
+-- goal: returns
 pub pieces_read : {T A : Type 0} {r : Reading ℕ T A} {says : List T → A → Type 0} {heapless : Type 0} {pieces : List (List T)} {result : Result (Answer A UnexpectedParse) SessionError} {holds : A → ℕ → Type 0} → Reads r says → ParsesPieces r heapless pieces result → ((a : A) (n : ℕ) (xs behind : List T) → says xs a → concatenated pieces ≡ xs ++ behind → length xs ≡ n → holds a n) → IfAccepted result holds
 pieces_read {T} {A} {r} {says} {heapless} {pieces} {result} {holds} h z f = by_case result z.is
   where
@@ -56,11 +58,14 @@ pieces_read {T} {A} {r} {says} {heapless} {pieces} {result} {holds} h z f = by_c
 
 -- a session: the tokens fed, from its beginning to the piece that decides
 module _ {Q T R E A S : Type 0} {meaning : Q → Meaning ℕ T R E A S} {valid : S → Type 0} where
+  -- goal: returns
   pub begun_fed : {determined : Q → Type 0} {most : Option ℕ} {p : Q} {c : Course Q T S} → BeginsSession meaning valid determined most p c → Fed (meaning p).whole (left_of_session meaning c) []
   begun_fed h = record { within = λ x m o. (h.left x m o).0 }
 
+  -- goal: returns
   pub more_fed : {r : Reading ℕ T A} {old new : Course Q T S} {fed piece : List T} {more : Bool} → Fed r (left_of_session meaning old) fed → AsksAfterPiece meaning valid old new piece more → Fed r (left_of_session meaning new) (fed ++ piece)
   more_fed {r} {fed} {piece} h z = record { within = λ x m o w. subst (λ xs. r (record { position = 0; unread = xs; is_open = m }) o) (sym (append_assoc fed piece x)) (h.within (piece ++ x) m o (z.left x m o w)) }
 
+  -- goal: returns
   pub session_reads : {r : Reading ℕ T A} {says : List T → A → Type 0} {old new : Course Q T S} {fed piece : List T} {more k : Bool} {a : A} {n : ℕ} → Reads r says → Fed r (left_of_session meaning old) fed → AcceptsPiece meaning valid old new piece more a n k → (xs : List T) × (behind : List T) × says xs a × (fed ++ piece ≡ xs ++ behind) × (length xs ≡ n)
   session_reads {fed} {piece} {more} {k} {a} {n} h i z = outcome_says h (record { position = 0; unread = fed ++ piece; is_open = more }) a n k (i.within piece more (Accepted a n k) z.means.is)

@@ -11,6 +11,7 @@ use Rattle.combine_facts.specs.Reads.{Reads, changed}
 
 module _ {P T A B : Type 0} {r : Reading P T A} {says : List T → A → Type 0} where
   -- by a function, which is given by its relation
+  -- goal: returns
   pub mapped_reads : (f : A → B → Type 0) → Reads r says → Reads (mapped_reading r f) (changed says f)
   mapped_reads f h = record { one = λ v b n k w. let i = h.one v w.0 n k w.1 in (i.0, (w.0, i.1, w.2)) }
 

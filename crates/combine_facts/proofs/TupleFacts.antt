@@ -37,6 +37,7 @@ module _ {P T A B C : Type 0} (step : P → T → P) (put : A → B → C) (back
   both v c n k (Refused d) w u = absurd (cc)
   both v c n k Undecided w u = absurd (cc)
 
+  -- goal: returns
   pub one_more_reads : Reads (sequel step put r (λ _. q)) (more back last says tells)
   one_more_reads = record { one = λ v c n k w. both v c n k w.0 w.1 w.2 }
 
@@ -49,13 +50,16 @@ module _ {P T : Type 0} (step : P → T → P) where
     abbrev reading_2 : Reading P T (A × B)
     reading_2 = sequel step push_1 (following false (push_0 tt) a) (λ _. b)
 
+    -- goal: returns
     pub two_reads : Reads reading_2 (two p q)
     two_reads = one_more_reads step push_1 (λ t. record { 0 = t.0 }) (λ t. t.1) (λ t b. (refl, refl)) (one_reads h0) h1
 
     -- with the value of one of them
+    -- goal: returns
     pub skip_reads : Reads (mapped_reading reading_2 (λ t x. x ≡ t.0)) (first_of p q)
     skip_reads = reads_as (λ xs x z. (z.0.1, subst (λ x. two p q xs (x, z.0.1)) (sym z.2) z.1)) (mapped_reads (λ t x. x ≡ t.0) two_reads)
 
+    -- goal: returns
     pub with_reads : Reads (mapped_reading reading_2 (λ t x. x ≡ t.1)) (second_of p q)
     with_reads = reads_as (λ xs x z. (z.0.0, subst (λ x. two p q xs (z.0.0, x)) (sym z.2) z.1)) (mapped_reads (λ t x. x ≡ t.1) two_reads)
 
@@ -63,9 +67,11 @@ module _ {P T : Type 0} (step : P → T → P) where
       abbrev reading_3 : Reading P T (A × B × C)
       reading_3 = sequel step push_2 reading_2 (λ _. c)
 
+      -- goal: returns
       pub three_reads : Reads reading_3 (three p q r)
       three_reads = reads_as (λ xs t z. (z.3.0, z.3.1, z.1, z.2 ∙ ap (λ l. l ++ z.1) z.3.2, z.3.3, z.3.4, z.4)) (one_more_reads step push_2 (λ t. (t.0, t.1)) (λ t. t.2) (λ t l. (refl, refl)) two_reads h2)
 
+      -- goal: returns
       pub between_reads : Reads (mapped_reading reading_3 (λ t x. x ≡ t.1)) (middle_of p q r)
       between_reads = reads_as (λ xs x z. (z.0.0, z.0.2, subst (λ x. three p q r xs (z.0.0, x, z.0.2)) (sym z.2) z.1)) (mapped_reads (λ t x. x ≡ t.1) three_reads)
 
@@ -73,6 +79,7 @@ module _ {P T : Type 0} (step : P → T → P) where
         abbrev reading_4 : Reading P T (A × B × C × D)
         reading_4 = sequel step push_3 reading_3 (λ _. d)
 
+        -- goal: returns
         pub four_reads : Reads reading_4 (four p q r s)
         four_reads = reads_as (λ xs t z. (z.3.0, z.3.1, z.3.2, z.1, z.2 ∙ ap (λ l. l ++ z.1) z.3.3, z.3.4, z.3.5, z.3.6, z.4)) (one_more_reads step push_3 (λ t. (t.0, t.1, t.2)) (λ t. t.3) (λ t l. (refl, refl)) three_reads h3)
 
@@ -80,6 +87,7 @@ module _ {P T : Type 0} (step : P → T → P) where
           abbrev reading_5 : Reading P T (A × B × C × D × E)
           reading_5 = sequel step push_4 reading_4 (λ _. e)
 
+          -- goal: returns
           pub five_reads : Reads reading_5 (five p q r s u)
           five_reads = reads_as (λ xs t z. (z.3.0, z.3.1, z.3.2, z.3.3, z.1, z.2 ∙ ap (λ l. l ++ z.1) z.3.4, z.3.5, z.3.6, z.3.7, z.3.8, z.4)) (one_more_reads step push_4 (λ t. (t.0, t.1, t.2, t.3)) (λ t. t.4) (λ t l. (refl, refl)) four_reads h4)
 
@@ -87,6 +95,7 @@ module _ {P T : Type 0} (step : P → T → P) where
             abbrev reading_6 : Reading P T (A × B × C × D × E × F)
             reading_6 = sequel step push_5 reading_5 (λ _. f)
 
+            -- goal: returns
             pub six_reads : Reads reading_6 (six p q r s u v)
             six_reads = reads_as (λ xs t z. (z.3.0, z.3.1, z.3.2, z.3.3, z.3.4, z.1, z.2 ∙ ap (λ l. l ++ z.1) z.3.5, z.3.6, z.3.7, z.3.8, z.3.9, z.3.10, z.4)) (one_more_reads step push_5 (λ t. (t.0, t.1, t.2, t.3, t.4)) (λ t. t.5) (λ t l. (refl, refl)) five_reads h5)
 
@@ -94,6 +103,7 @@ module _ {P T : Type 0} (step : P → T → P) where
               abbrev reading_7 : Reading P T (A × B × C × D × E × F × G)
               reading_7 = sequel step push_6 reading_6 (λ _. g)
 
+              -- goal: returns
               pub seven_reads : Reads reading_7 (seven p q r s u v w)
               seven_reads = reads_as (λ xs t z. (z.3.0, z.3.1, z.3.2, z.3.3, z.3.4, z.3.5, z.1, z.2 ∙ ap (λ l. l ++ z.1) z.3.6, z.3.7, z.3.8, z.3.9, z.3.10, z.3.11, z.3.12, z.4)) (one_more_reads step push_6 (λ t. (t.0, t.1, t.2, t.3, t.4, t.5)) (λ t. t.6) (λ t l. (refl, refl)) six_reads h6)
 
@@ -101,5 +111,6 @@ module _ {P T : Type 0} (step : P → T → P) where
                 abbrev reading_8 : Reading P T (A × B × C × D × E × F × G × H)
                 reading_8 = sequel step push_7 reading_7 (λ _. h)
 
+                -- goal: returns
                 pub eight_reads : Reads reading_8 (eight p q r s u v w y)
                 eight_reads = reads_as (λ xs t z. (z.3.0, z.3.1, z.3.2, z.3.3, z.3.4, z.3.5, z.3.6, z.1, z.2 ∙ ap (λ l. l ++ z.1) z.3.7, z.3.8, z.3.9, z.3.10, z.3.11, z.3.12, z.3.13, z.3.14, z.4)) (one_more_reads step push_7 (λ t. (t.0, t.1, t.2, t.3, t.4, t.5, t.6)) (λ t. t.7) (λ t l. (refl, refl)) seven_reads h7)

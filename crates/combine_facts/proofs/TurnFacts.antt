@@ -43,6 +43,7 @@ module _ {P T A : Type 0} (step : P → T → P) (b : Bounds) {later : Reading P
       (more.0, omega (arith, length-drop x.count v.unread), (take x.count v.unread, take (taken bs) (drop x.count v.unread), take-add x.count (taken bs) v.unread, one.1, same_each says (take (taken bs) (drop x.count v.unread)) (values bs) more.2), omega arith, λ z. next_within b g (length (values bs)) w.0 (more.4 (next_fits b g w.0)))
 
   -- turns, of which the first may be another, and any gathering
+  -- goal: returns
   pub turns_reads : {V : Type 0} (c : Collecting A V) {begins : Reading P T A} {first : List T → A → Type 0} → Reads begins first → Reads (TurnsOutcome step (bounded b no_value_ends) c (λ _. later) begins (none_yet c.none)) (gathers b c first says)
   turns_reads {V} c {begins} {first} i = record { one = λ v a n k w. at v a n k w.blocks w.last w.held w.divided w.joined w.folded w.collected }
     where
@@ -61,10 +62,12 @@ module _ {P T A : Type 0} (step : P → T → P) (b : Bounds) {later : Reading P
       at v a n k bs Undecided held e f g l = absurd (cc)
 
   -- turns whose values are dropped
+  -- goal: returns
   pub passed_reads : Reads (TurnsOutcome step (bounded b no_value_ends) dropped (λ _. later) later (none_yet tt)) (passed b says)
   passed_reads = reads_as (λ xs u w. (w.0, same_each says xs w.0 w.1, w.2)) (turns_reads dropped h)
 
   -- turns whose values are appended to a collection
+  -- goal: returns
   pub listed_reads : {V : Type 0} (held : V → List A) (heapless : Type 0) → Reads (TurnsOutcome step (bounded b no_value_ends) (appended held [] (λ bs b. bs ++ b ∷ []) heapless) (λ _. later) later (none_yet [])) (listed b held says)
   listed_reads held heapless = reads_as (λ xs v w.
       let is = sym (appends [] w.0 (held v) w.3) in
@@ -86,8 +89,10 @@ pub all_where_reads : {P T V : Type 0} (step : P → T → P) (b : Bounds) (held
 all_where_reads step b held heapless f = reads_as (λ xs v w. let i = each_where f xs (held v) w.0 in (i.0, i.1, w.1)) (listed_reads step b (where_reads f) held heapless)
 
 -- the same of a vector
+-- goal: returns
 pub vec_reads : {P T A : Type 0} (step : P → T → P) (b : Bounds) {r : Reading P T A} {says : List T → A → Type 0} → Reads r says → Reads (TurnsOutcome step (bounded b no_value_ends) (appended {V = Vec A} vec_items [] (λ bs b. bs ++ b ∷ []) ⊥) (λ _. r) r (none_yet [])) (listed b vec_items says)
 vec_reads step b h = listed_reads step b h vec_items ⊥
 
+-- goal: returns
 pub vec_where_reads : {P T : Type 0} (step : P → T → P) (b : Bounds) (f : T → Bool) → Reads (TurnsOutcome step (bounded b no_value_ends) (appended {V = Vec T} vec_items [] (λ bs b. bs ++ b ∷ []) ⊥) (λ _. one_token (satisfied (of_function f))) (one_token (satisfied (of_function f))) (none_yet [])) (all_where b vec_items f)
 vec_where_reads step b f = all_where_reads step b vec_items ⊥ f

@@ -74,12 +74,14 @@ module _ {I P T R E C S V : Type 0} (step : P → T → P) (s : Observers T R P 
 
       module _ (marked : View P T → Type 0) (i : marked (view input)) (new : View P T) (later : Failures) where
         -- need of more, put back
+        -- goal: returns-in-Ok-clause-answers
         pub again_back : ResetTo counts_failures step marked (view mid) new (failures mid) later (Ok tt) → Answers w m (run new later) (CommitErr e)
         again_back b =
             let a = stateless_asks w read ⊥ (Unit {0}) (AddsNothing {R = R}) refuses (run new later) is_open asked.meant (λ z. absurd z) (b.is.0 (view input) i) (λ z. b.is.1 z ∙ asked.failures z) in
             record { is = rw q.0 (subst (asks_or_refuses w m (run new later)) (sym is_open) a) }
 
         -- the stream couldn't be put back
+        -- goal: returns-in-Err-clause-answers
         pub again_stuck : (k : Kind) → ResetTo counts_failures step marked (view mid) new (failures mid) later (Err k) → (f : E) → s.kind f ≡ k → Answers w m (run new later) (CommitErr f)
         again_stuck k b f j =
             let n = b.is.1 in

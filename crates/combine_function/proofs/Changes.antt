@@ -145,12 +145,15 @@ module _ {P T R A B S E : Type 0} (s : Observers T R P E) (step : P → T → P)
   abbrev w : World P T S E
   w = world step s counts_failures fresh
 
+  -- goal: returns-in-Ok-clause-answers
   pub commit_value : (b : B) → Answers w m r (CommitOk a) → Changes s (gives r.new.position a) (denies a) (starves a) says (Ok b) → Answers w (whole w valid gives denies starves tells m r) (record { first = r.first; state = r.state; left = r.left; old = r.old; new = new; before = r.before; after = later }) (CommitOk b)
   commit_value b h c = record { is = gives_value w valid gives denies starves tells m r new later e f a true h.is b c.is }
 
+  -- goal: returns-in-Ok-change-clause-answers
   pub peek_value : (b : B) → Answers w m r (PeekOk a) → Changes s (gives r.new.position a) (denies a) (starves a) says (Ok b) → Answers w (whole w valid gives denies starves tells m r) (record { first = r.first; state = r.state; left = r.left; old = r.old; new = new; before = r.before; after = later }) (PeekOk b)
   peek_value b h c = record { is = gives_value w valid gives denies starves tells m r new later e f a false h.is b c.is }
 
+  -- goal: returns-in-Err-clause-answers
   pub commit_denial : valid r.state → (x : E) → Answers w m r (CommitOk a) → Changes s (gives r.new.position a) (denies a) (starves a) says (Err x) → Answers w (whole w valid gives denies starves tells m r) (record { first = r.first; state = r.state; left = r.left; old = r.old; new = new; before = r.before; after = later }) (CommitErr x)
   commit_denial i x h c = by_case c.is
     where
@@ -158,6 +161,7 @@ module _ {P T R A B S E : Type 0} (s : Observers T R P E) (step : P → T → P)
       by_case (inl p) = record { is = rw p.0 (denied w valid gives denies starves tells m r new later e f a true h.is p.1) }
       by_case (inr p) = record { is = rw p.0 (starved w valid gives denies starves tells m r new later e f a true h.is (λ y l. good_ok valid m (spares starves) w r a l i h (p.1 y))) }
 
+  -- goal: returns-in-Err-change-clause-answers
   pub peek_denial : valid r.state → (x : E) (result : ParseResult B E) → Answers w m r (PeekOk a) → Changes s (gives r.new.position a) (denies a) (starves a) says (Err x) → Peeked s.kind x result → Answers w (whole w valid gives denies starves tells m r) (record { first = r.first; state = r.state; left = r.left; old = r.old; new = new; before = r.before; after = later }) result
   peek_denial i x (CommitOk b) h c q = absurd q.is
   peek_denial i x (PeekOk b) h c q = absurd q.is

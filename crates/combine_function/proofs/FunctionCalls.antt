@@ -50,6 +50,7 @@ module _ {I P T R C V S E : Type 0} (step : P → T → P) (s : Observers T R P 
     leaves : MovesUnfailing step s.kind view answers marks failures counts_failures input left → Leaves w end
     leaves k = record { count = k.moves.count; taken = k.moves.taken; state = d }
 
+    -- goal: returns-in-CommitOk-clause-answers
     pub called_ok : (a : V) → answers input (CommitOk a) left → KeepsLaws step s.kind view answers marks failures counts_failures input left (CommitOk a) → Answers w m end (CommitOk a)
     called_ok a met k =
         let y = k.is in
@@ -80,6 +81,7 @@ module _ {I P T R C V S E : Type 0} (step : P → T → P) (s : Observers T R P 
       same_mark y = takes_open step y.moves.count (view input) (view left) y.moves.taken
 
       -- no need of more
+      -- goal: returns-else-needs_more-clause-answers
       pub called_err : ((s.kind e ≡ kinds.End) × ((view left).is_open ≡ true) → ⊥) → Answers w m end (CommitErr e)
       called_err n = record { is = by_kind (s.kind e) refl k.is }
         where
@@ -103,6 +105,7 @@ module _ {I P T R C V S E : Type 0} (step : P → T → P) (s : Observers T R P 
         is_open = sym (same_mark settled) ∙ q.1
 
         -- need of more, put back
+        -- goal: returns-in-Ok-reset-clause-answers
         pub called_back : ResetTo counts_failures step marked (view left) new (failures left) later (Ok tt) → Answers w m (run new later) (CommitErr e)
         called_back b =
             let undecided : read (view input) Undecided = record { input = input; left = left; answer = CommitErr e; met = met; stands = rw (is_open, q.0) refl; place = inl refl } in

@@ -146,9 +146,11 @@ module _ {P T R E : Type 0} (step : P → T → P) (s : Observers T R P E) (coun
     keeps_once read h given input left y x = run_keeps_laws s step view given marks failures counts_failures (λ b. b ≡ false) (λ b. Unit {0}) (once {R = R} {E = E} read) (once_is_meaning read h) input left y x.passes x.answers
 
     module _ {V X : Type 0} (into : X → ParseResult V E) where
+      -- goal: clause-lawful
       pub plain_is_function : (read : Reading P T V) → IsReading read → (returns : I → X → I → Type 0) → ((input left : I) (own : X) → returns input own left → Runs read input left (into own)) → IsFunction step s.kind view (AnswersAt returns into) marks failures counts_failures
       plain_is_function read h returns k = record { each = λ input left y a. keeps_once read h (AnswersAt returns into) input left y (rw a.is (k input left a.own a.met)) }
 
+      -- goal: clause-lawful
       pub env_is_function : {Env : Type 0} (clone : Env → Type 0) (read : Env → Reading P T V) → ((e : Env) → IsReading (read e)) → (returns : Env → I → X → I → Type 0) → ((e : Env) (input left : I) (own : X) → returns e input own left → Runs (read e) input left (into own)) → IsFunction step s.kind view (AnswersWith clone returns into) marks failures counts_failures
       env_is_function clone read h returns k = record { each = λ input left y a. keeps_once (read a.env) (h a.env) (AnswersWith clone returns into) input left y (let b = a.answers in rw b.is (k a.env input left b.own b.met)) }
 

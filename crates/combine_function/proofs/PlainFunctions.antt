@@ -86,9 +86,11 @@ module _ {I P T R V E S : Type 0} (step : P → T → P) (errors : Observers T R
       plain_runs : (input left : I) (y : ParseResult V E) → AnswersAt returns into input y left → RunsIt input y left
       plain_runs input left y a = rw a.is (k input left a.own a.met)
 
+      -- goal: puts_back_without_memory-requires-clause-determined
       pub plain_is_single : IsReading m.whole → IsSingle m.whole → IsSingle (FunctionReading step errors.kind view (AnswersAt returns into))
       plain_is_single h one = run_is_single h one (AnswersAt returns into) plain_runs
 
+      -- goal: puts_back_without_memory-requires-clause-puts_back
       pub plain_needs_no_memory : errors.heapless → m.heapless → NeedsNoMemory step errors.kind view (AnswersAt returns into)
       plain_needs_no_memory = run_needs_no_memory (AnswersAt returns into) plain_runs
 
@@ -96,9 +98,11 @@ module _ {I P T R V E S : Type 0} (step : P → T → P) (errors : Observers T R
       env_runs : (input left : I) (y : ParseResult V E) → AnswersWith clone returns into input y left → RunsIt input y left
       env_runs input left y a = let b = a.answers in rw b.is (k a.env input left b.own a.cloned b.met)
 
+      -- goal: puts_back_without_memory-requires-2-clause-determined
       pub env_is_single : IsReading m.whole → IsSingle m.whole → IsSingle (FunctionReading step errors.kind view (AnswersWith clone returns into))
       env_is_single h one = run_is_single h one (AnswersWith clone returns into) env_runs
 
+      -- goal: puts_back_without_memory-requires-2-clause-puts_back
       pub env_needs_no_memory : errors.heapless → m.heapless → NeedsNoMemory step errors.kind view (AnswersWith clone returns into)
       env_needs_no_memory = run_needs_no_memory (AnswersWith clone returns into) env_runs
 

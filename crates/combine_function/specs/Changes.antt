@@ -134,6 +134,7 @@ module _ {P T A B : Type 0} (step : P → T → P) (gives : P → A → B → Ty
   both_ways r t h v o = (into r t (λ v o. (h v o).0) v o, into t r (λ v o. (h v o).1) v o)
 
   module _ {R E S : Type 0} (says : P → A → E → Type 0) (spared : Type 0) where
+    -- goal: laws
     pub changed_is_meaning : {fresh valid : S → Type 0} {m : Meaning P T R E A S} → IsMeaning fresh valid m → IsMeaning fresh valid (changed_meaning says spared m)
     changed_is_meaning {fresh} {valid} {m} h = record {
       whole = changed_is_reading m.whole h.whole;
@@ -143,12 +144,16 @@ module _ {P T A B : Type 0} (step : P → T → P) (gives : P → A → B → Ty
       reasons = λ s d. refused_same step says (m.rest s) m.whole (refusals_from m s) (refusals m) (λ v o. h.start s v o d) (refusals_begin h s d);
     }
 
+    -- goal: single
     pub changed_means_one : {valid : S → Type 0} {m : Meaning P T R E A S} → MeansOne valid m → ChangesOne step valid m gives denies → MeansOne valid (changed_meaning says spared m)
     changed_means_one {valid} {m} h d = record {
       whole = record { one = changed_one m.whole h.whole d.whole };
       rest = λ s k. record { one = changed_one (m.rest s) (h.rest s k) (d.rest s k) };
     }
 
+  -- goal: returns-clause-same
+  -- goal: returns-in-CommitErr-clause-same
+  -- goal: returns-in-Err-change-clause-same
   pub changed_means_same : {R E S : Type 0} (says : P → A → E → Type 0) {spared spared' : Type 0} {m m' : Meaning P T R E A S} → spared ↔ spared' → MeansSame m m' → MeansSame (changed_meaning says spared m) (changed_meaning says spared' m')
   changed_means_same says {spared} {spared'} {m} {m'} i h = record {
     whole = both_ways m.whole m'.whole h.whole;

@@ -17,6 +17,7 @@ module _ {I P T R V E S C : Type 0} (errors : Observers T R P E) (step : P → T
   abbrev here : World P T S E
   here = world step errors counts_failures fresh
 
+  -- goal: clause-lawful
   pub run_keeps_laws : (answer : ParseResult V E) → Passes (marks input) (marks left) (failures input) (failures left) → Starts here m (view input) (view left) (failures input) (failures left) answer → KeepsLaws step errors.kind view given marks failures counts_failures input left answer
   run_keeps_laws answer p s = record { is = by_answer answer s.answers.is; passes = p }
     where

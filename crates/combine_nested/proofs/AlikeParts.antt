@@ -75,6 +75,7 @@ module _ {O V : Type 0} where
         ∙ ap (λ (ls : List Fixity). fit ls (shape_of p.operands).slots (shape_of p.operands).held u) k.same_levels
         ∙ ap (λ (s : Shape). fit q.operands.levels s.slots s.held u) k.same_shape
 
+    -- goal: clause-determined
     pub asks_alike : {A B C P T : Type 0} {a : Part O V N → A → Type 0} {b : Part O V N → B → Type 0} {c : Part O V N → C → Type 0} (whole : Either A (Either B C) → Reading P T (Item O V)) → ((x y : A) (f g : Part O V N) → a f x → a g y → (v : View P T) (o : Outcome (Item O V)) → whole (Left x) v o ↔ whole (Left y) v o) → ((x y : B) (f g : Part O V N) → b f x → b g y → (v : View P T) (o : Outcome (Item O V)) → whole (Right (Left x)) v o ↔ whole (Right (Left y)) v o) → ((x y : C) (f g : Part O V N) → c f x → c g y → (v : View P T) (o : Outcome (Item O V)) → whole (Right (Right x)) v o ↔ whole (Right (Right y)) v o) → (f g : Part O V N) → PartsAlike f g → (n m : Either A (Either B C)) → asked_either (λ p i. i ≡ awaits p) a (asked_either (λ p i. i ≡ p.in_brackets) b c) f n → asked_either (λ p i. i ≡ awaits p) a (asked_either (λ p i. i ≡ p.in_brackets) b c) g m → (v : View P T) (o : Outcome (Item O V)) → whole n v o ↔ whole m v o
     asks_alike whole h i j f g k (Left x) (Left y) r s = h x y f g r.1 s.1
     asks_alike whole h i j f g k (Right (Left x)) (Right (Left y)) r s = i x y f g r.1.1 s.1.1
@@ -145,6 +146,7 @@ module _ {O V : Type 0} {N : ℕ} (changes : O → V → V → Type 0) (joins : 
   next_alike p q k _ _ opening = opens_alike p q k
   next_alike p q k _ _ closing = closes_alike p q k
 
+  -- goal: clause-determined
   pub expression_is_one : {P T R E M U : Type 0} (levels : List Fixity) (answers : Part O V N → M → Type 0) (some : M → Type 0) (means : M → Meaning P T R E (Item O V) U) (valid : U → Type 0) → ((f g : Part O V N) → PartsAlike f g → (n m : M) → answers f n → answers g m → (v : View P T) (o : Outcome (Item O V)) → (means n).whole v o ↔ (means m).whole v o) → ((n : M) → some n → GivesAlike ItemsAlike (means n).whole) → ((n : M) → some n → (s : U) → valid s → GivesAlike ItemsAlike ((means n).rest s)) → NestsOne (BeginsPart levels false) answers (part_takes changes joins refuses_operand refuses_operands) (part_joins changes joins refuses_operand refuses_operands) some means valid PartsAlike ItemsAlike (λ _ _. Unit {0})
   expression_is_one levels answers some means valid a g h = record {
     same = λ f. record { same_levels = refl; same_brackets = refl; same_shape = refl };

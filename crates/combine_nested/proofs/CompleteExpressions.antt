@@ -201,6 +201,7 @@ module _ {O V : Type 0} (levels : List Fixity) where
         cc
 
     -- no expression ends where an operand is awaited
+    -- goal: returns
     pub no_open_end : (ts : List (Thing O V)) (s : Shape) (w : V) → fits levels ts start ≡ Some s → s.held ≡ None → IsExpression levels changes joins 0 ts w → ⊥
     no_open_end ts s w e h x =
         let c : FitsAtLevel ts [] 0 = comes 0 ts w x 0 [] (omega arith) (omega arith) (omega arith) in

@@ -278,6 +278,7 @@ module _ {F I V N Input U Checkpoint T R P E : Type 0} (p : parser.Ghosts N Inpu
             }
 
     -- its result is that of the call
+    -- goal: clause-answers
     pub step_stops : (y : ParseResult V E) → CalledStep p i observers fresh depth takes joins input left l state (dids.Stops y) → Answers whole_world all whole_run y
     step_stops y g = by_answer g.answer g.answers g.did g.keeps
       where
@@ -295,6 +296,7 @@ module _ {F I V N Input U Checkpoint T R P E : Type 0} (p : parser.Ghosts N Inpu
         by_answer (PeekErr t) a d (inr k) = subst (λ x. Answers whole_world all whole_run x) (stops_as d) (inside_refuses (inside g.stopped) (λ x. k.1) t a)
 
     -- and the error of a refusal is one that the call may have
+    -- goal: clause-refuses
     pub step_reasons : (y : ParseResult V E) → CalledStep p i observers fresh depth takes joins input left l state (dids.Stops y) → Reasoned observers.kind (i.view left).is_open (refused_from z old (i.view left)) y
     step_reasons y g = by_answer g.answer g.answers (explained_meant g.answers g.explained) g.did
       where
@@ -308,6 +310,7 @@ module _ {F I V N Input U Checkpoint T R P E : Type 0} (p : parser.Ghosts N Inpu
         by_answer (PeekErr t) a x d = subst (λ y. Reasoned observers.kind (i.view left).is_open (refused_from z old (i.view left)) y) (stops_as d) (reasons_after observers.kind (i.view left).is_open (refused_from z old (i.view left)) l.committed t (r.refuses (i.view left) l.committed t.error (inl (record { is = inr (refl, x.is) }))))
 
     -- it was accepted, and the next step follows
+    -- goal: clause-answers
     pub step_goes : {valid : U → Type 0} → IsMeaning fresh valid (p.meaning l.parser) → valid l.state → (next : Frames F) (c : Bool) → CalledStep p i observers fresh depth takes joins input left l state (dids.Goes next c) → begins_steps state × ReachesStep z old (i.view left) before (i.failures left) c next
     step_goes {valid} laws v next c g = by_answer g.answer g.answers g.did g.keeps
       where

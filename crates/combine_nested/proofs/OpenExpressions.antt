@@ -53,6 +53,7 @@ module _ {O V : Type 0} (levels : List Fixity) (changes : O → V → V → Type
   asked_within [] ts w = omega arith
   asked_within (p ∷ ps) ts w = asked_at p ps ts p.left w
 
+  -- goal: returns
   pub operand_so : (ps : List (Pending O V)) (ts : List (Thing O V)) (v : V) → pends levels changes joins ps ts → HoldsOperand levels changes joins ps (record { value = v; level = length levels }) (ts ++ Operand v ∷ [])
   operand_so ps ts v w = record {
     before = ts;
@@ -66,6 +67,7 @@ module _ {O V : Type 0} (levels : List Fixity) (changes : O → V → V → Type
   pub prefix_so : (ps : List (Pending O V)) (ts : List (Thing O V)) (level : ℕ) (o : O) → slice_get levels level ≡ Some fixities.Prefix → asked_level ps ≤ level → pends levels changes joins ps ts → pends levels changes joins (record { operator = o; level = level; asks = level; left = None } ∷ ps) (ts ++ Prefix level o ∷ [])
   prefix_so ps ts level o f l w = record { before = ts; stands = w; fits = l; is_prefix = f; asks = refl; are = refl }
 
+  -- goal: returns
   pub infix_so : (ps : List (Pending O V)) (ts : List (Thing O V)) (level : ℕ) (lowest : Lowest) (o : O) (held : Held V) → sides_of level (slice_get levels level) ≡ Some lowest → asked_level ps ≤ level → lowest.left ≤ held.level → HoldsOperand levels changes joins ps held ts → pends levels changes joins (record { operator = o; level = level; asks = lowest.right; left = Some held.value } ∷ ps) (ts ++ Infix level o ∷ [])
   infix_so ps ts level lowest o held s l k h = record {
     before = h.before;
@@ -142,6 +144,7 @@ module _ {O V : Type 0} {N : ℕ} (changes : O → V → V → Type 0) (joins : 
   abbrev pub unfit : Thing O V → Type 0
   unfit t = Misfits changes joins from t (misfit_text t)
 
+  -- goal: returns
   misfits : (t : Thing O V) → fit_in from t ≡ None → unfit t
   misfits t e = record { misfits = e; says = refl; none = λ ts us w s x. no_misfit from.levels changes joins (ts ++ t ∷ []) us w (fits_one from.levels ts t (shape_of from) None s.fits e) (subst (λ k. IsExpression from.levels changes joins 0 k w) (sym (append_assoc ts (t ∷ []) us)) x) }
 

@@ -65,6 +65,7 @@ module _ {O V : Type 0} (levels : List Fixity) (changes : O → V → V → Type
     }
 
   -- the innermost operator gets the operand
+  -- goal: returns
   pub reduced : (p : Pending O V) (ps : List (Pending O V)) (held next : Held V) (ts : List (Thing O V)) → Reduced changes joins p held.value next → HoldsOperand levels changes joins (p ∷ ps) held ts → HoldsOperand levels changes joins ps next ts
   reduced p ps held next ts r h = reduced_at p ps held next ts h.before h.operand h.fits h.are h.is_operand r.level p.left h.pends r.made
 
@@ -73,6 +74,7 @@ module _ {O V : Type 0} (levels : List Fixity) (changes : O → V → V → Type
   pop_reduced xs ys p held next ts e r h = reduced p (reverse ys) held next ts r (subst (λ k. HoldsOperand levels changes joins k held ts) (innermost_of xs ys p e) h)
 
   -- there is no waiting operator
+  -- goal: returns
   pub complete : (held : Held V) (ts : List (Thing O V)) → HoldsOperand levels changes joins [] held ts → E 0 ts held.value
   complete held ts h =
       let e : ts ≡ h.operand = h.are ∙ ap (λ k. k ++ h.operand) h.pends in

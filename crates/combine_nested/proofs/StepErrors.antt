@@ -38,6 +38,7 @@ module _ {P T R F I V N U E : Type 0} (step : P → T → P) (errors : Observers
   one_refuses n f a c fs v w k e (inr x) = let y = item_bounded (means n).whole false c f fs v w k e x in (suc y.0, (n, a, inr y.1))
 
   -- the step's parser was returned for the innermost frame, and begins
+  -- goal: clause-refuses
   pub next_step_refuses : {fresh valid : U → Type 0} (l : Frames F) (c : Bool) (n : N) → answers l.top n → IsMeaning fresh valid (means n) → (u : U) → fresh u → (v w : View P T) (k : Bool) (e : E) → running_step_refuses step errors depth roots answers takes joins means (record { frames = l; committed = c; took_before = false; parser = n; state = u }) v w k e → runs_at c l.top (frames_around l) v w k e
   next_step_refuses l c n a laws u d v w k e (inl x) =
       one_refuses n l.top a c (frames_around l) v w k e (inl (last_into errors (means n) (means n) (refusals_from (means n) u) (refusals (means n)) (λ y. y) (λ is y. y) (λ v w k e. (refusals_begin laws u d v w k e).0) c v w k e x))

@@ -214,5 +214,6 @@ module _ {P T R E F I V N U : Type 0} (step : P → T → P) (depth : ℕ) {root
         let fs = frames_around l.frames in
         following_is_single l.committed unchanged (stepping step depth roots answers takes joins some means runs_at (marked_taken l.took_before r) top fs) (record { one = stepping_one runs_at runs_at runs_one top top (h.same top) fs fs (all_same fs) l.took_before r r (kept_alike l.parser d.0 l.state d.1) })
 
+    -- goal: single
     pub nesting_means_one : (errors : Observers T R P E) → MeansOne (valid_steps (KeptOf lawful means some) valid) (nesting step errors depth roots answers takes joins some means)
     nesting_means_one errors = record { whole = whole_is_single; rest = rest_is_single }

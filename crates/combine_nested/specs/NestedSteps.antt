@@ -346,5 +346,7 @@ module _ {P T R E F I V N U : Type 0} (step : P → T → P) (depth : ℕ) (root
       reasons_start states.Start d v w k e = (λ x. x, λ x. x)
       reasons_start (states.Running l) d v w k e = absurd d
 
+      -- goal: steps-init
+      -- goal: steps-preserved
       pub nesting_is_meaning : IsMeaning begins_steps (valid_steps (KeptOf lawful means some) valid) (nesting step errors depth roots answers takes joins some means)
       nesting_is_meaning = record { whole = whole_is_reading; rest = rest_is_reading; start = starts; found = finds; reasons = reasons_start }

@@ -133,6 +133,7 @@ module _ {O V : Type 0} (levels : List Fixity) (changes : O → V → V → Type
       denied_step is p ps v (too_deep i n c x r t s) k = tt
       denied_step is p ps v (takes_nothing i n c x g gs r t s e) k = tt
 
+      -- goal: returns
       pub refused_is_denied : (made : List Fixity) → made ≡ levels → RefusesExpressions (nested_whole step depth (BeginsPart made false) answers takes_item joins_value some means)
       refused_is_denied made e v c m =
           let a : nested_whole step depth (BeginsPart levels false) answers takes_item joins_value some means v (Refused c) = subst (λ k. nested_whole step depth (BeginsPart k false) answers takes_item joins_value some means v (Refused c)) e m in

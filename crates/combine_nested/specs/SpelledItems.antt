@@ -198,6 +198,7 @@ module _ {O V : Type 0} {N : ℕ} (levels : List Fixity) (changes : O → V → 
     abbrev pub AcceptsExpressions : Reading P T V → Type 0
     AcceptsExpressions whole = (v : View P T) (w : V) (n : ℕ) (c : Bool) → whole v (Accepted w n c) → ReadsExpression v w n
 
+    -- goal: returns
     pub accepted_is_expression : (made : List Fixity) → made ≡ levels → AcceptsExpressions (nested_whole step depth (BeginsPart made false) answers takes_item joins_value some means)
     accepted_is_expression made e v w n c m =
         let a : nested_whole step depth (BeginsPart levels false) answers takes_item joins_value some means v (Accepted w n c) = subst (λ k. nested_whole step depth (BeginsPart k false) answers takes_item joins_value some means v (Accepted w n c)) e m in

@@ -16,6 +16,7 @@ pub ahead : {P T : Type 0} (step : P → T → P) (n : ℕ) (u v : View P T) →
 ahead step n u v t = record { enough = t.enough; position = ap (λ (x : View _ _). x.position) t.rest; unread = ap (λ (x : View _ _). x.unread) t.rest }
 
 -- the stream was put back, and the range read again
+-- goal: returns-clause-hands
 pub read_again : {P T R : Type 0} (counts_failures : Type 0) (step : P → T → P) (size : T → ℕ) (filled : (t : T) → 0 < size t) (spells : R → List T → Type 0) (old mid new : View P T) (before f after : Failures) (n d : ℕ) (result : Result R Kind) → n ≤ length old.unread → d ≡ size_of size (take n old.unread) → mid ≡ old → (counts_failures → f ≡ before) → before.reads ≤ f.reads → before.resets ≤ f.resets → UnconsRange counts_failures step size spells mid new f after d result → Hands counts_failures step spells old new before after n result
 read_again {P = P} {T = T} {R = R} counts_failures step size filled spells old mid new before f after n d result enough far back i a b u = record { is = by_result result (subst (λ (v : View P T). unconses_range counts_failures step size spells v new f after d result) back u.is) }
   where
@@ -41,11 +42,13 @@ read_again {P = P} {T = T} {R = R} counts_failures step size filled spells old m
     by_result (Err k) x = by_kind k x
 
 -- the stream was not put back
+-- goal: returns-in-Err-clause-hands
 pub not_back : {P T R : Type 0} (counts_failures : Type 0) (step : P → T → P) (spells : R → List T → Type 0) (old mid new : View P T) (before after : Failures) (n : ℕ) (k : Kind) → Takes step n old mid → (k ≡ kinds.Reset) × Moves step mid new × (before.resets < after.resets) → Hands counts_failures step spells old new before after n (Err k)
 not_back counts_failures step spells old mid new before after n k t h = record { is = rw h.0 (h.2, moves_more step n old mid new t h.1) }
 
 module _ {P T V E : Type 0} (counts_failures : Type 0) (step : P → T → P) (size : T → ℕ) (old new : View P T) (before after : Failures) (n : ℕ) (kind : E → Kind) where
   -- the distance is kept
+  -- goal: returns-in-Ok-clause-keeps
   pub kept_back : (state left : Distance) (e : E) → kind e ≡ kinds.End → (new ≡ old) × (counts_failures → after ≡ before) → left.items ≡ size_of size (take n old.unread) → KeepsItemDistance counts_failures step size old new before after n {V = V} kind state left (CommitErr e)
   kept_back state left e i h l = record { is = inl (i, record { same = h.0; failures = h.1; kept = l }) }
 

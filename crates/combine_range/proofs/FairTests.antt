@@ -13,6 +13,7 @@ use Rattle.combine_stream.specs.Range.TextRanges.{text_of, size_encodes}
 use Rattle.combine_range.specs.WantedRanges.{begins_equal, Fair, BeginsWithWanted, equal_range}
 
 -- if tokens spell one list of items, tests of that list are fair
+-- goal: clause-determined
 pub fair_by_items : {T I R : Type 0} (items : R → List I) (spelling : List T → List I) (test : List I → Bool) → Fair {T = T} {R = R} (λ r ts. items r ≡ spelling ts) (λ r. test (items r))
 fair_by_items items spelling test r q ts a b = ap test (a ∙ sym b)
 

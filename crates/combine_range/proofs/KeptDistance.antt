@@ -31,13 +31,16 @@ module _ {P T R A E : Type 0} (w : World P T Distance E) (size : T → ℕ) (rea
       by_first true i = subst (λ n. read n v o) i p
       by_first false i = subst (λ n. read n v o) i p
 
+  -- goal: clause-answers
   pub distance_accepts : (a : A) (n : ℕ) (c : Bool) → read d r.old (Accepted a n c) → Takes w.step n r.old r.new → w.fresh r.left → (w.counts_failures → r.after ≡ r.before) → Accepts w whole r a c
   distance_accepts a n c p t l f = record { count = n; meant = into r.old (Accepted a n c) p; taken = t; state = l; failures = f }
 
+  -- goal: clause-answers
   pub distance_refuses : (result : ParseResult A E) → RefusesPeeked w.kind w.heapless r.old.is_open result → read d r.old (Refused false) → Moves w.step r.old r.new → w.fresh r.left → (w.counts_failures → r.after ≡ r.before) → Answers w whole r result
   distance_refuses result n p m l f = refused_peeked w whole r result n (into r.old (Refused false) p) (record { count = m.count; taken = m.taken; state = l }) f
 
   -- need of more: all is put back, and the distance is kept
+  -- goal: clause-answers
   pub distance_asks : (x : E) → w.kind x ≡ kinds.End → r.old.is_open ≡ true → read d r.old Undecided → r.new ≡ r.old → r.left.items ≤ size_of size r.old.unread → ((y : List T) (b : Bool) (o : Outcome A) → read r.left.items (extended y b r.old) o → read d (extended y b r.old) o) → (w.counts_failures → r.after ≡ r.before) → Answers w whole r (CommitErr x)
   distance_asks x i q p n l g f = record { is = rw i (subst (asks_or_refuses w whole r) (sym q) asking) }
     where
@@ -76,6 +79,7 @@ module _ {P T R A E : Type 0} (w : World P T Distance E) (size : T → ℕ) (rea
       by_kind kinds.Lost h = absurd h
 
   -- the result is the first n tokens
+  -- goal: clause-answers
   pub distance_hands_over : (n : ℕ) (g : Failures) (spells : A → List T → Type 0) (result : ParseResult A E) → HandsOutRange w.counts_failures w.step spells r.old r.new g r.after n w.kind result → ((a : A) → spells a (take n r.old.unread) → read d r.old (Accepted a n (nat_lt 0 n))) → w.fresh r.left → r.before.reads ≤ g.reads → r.before.resets ≤ g.resets → (w.counts_failures → g ≡ r.before) → Answers w whole r result
   distance_hands_over n g spells result h t l x y f = by_result result h.is
     where
@@ -86,6 +90,7 @@ module _ {P T R A E : Type 0} (w : World P T Distance E) (size : T → ℕ) (rea
       by_result (PeekErr e) z = absurd z
 
   -- need of more with its distance kept, or a fault if the stream could not be put back
+  -- goal: clause-answers
   pub distance_asks_from : (n : ℕ) (state : Distance) (mid : View P T) (g : Failures) (result : ParseResult A E) → KeepsItemDistance w.counts_failures w.step size r.old r.new g r.after n w.kind state r.left result → Takes w.step n r.old mid → w.fresh state → r.before.reads ≤ g.reads → r.before.resets ≤ g.resets → (w.counts_failures → g ≡ r.before) → r.old.is_open ≡ true → read d r.old Undecided → ((k : ℕ) → k ≡ size_of size (take n r.old.unread) → (y : List T) (b : Bool) (o : Outcome A) → read k (extended y b r.old) o → read d (extended y b r.old) o) → Answers w whole r result
   distance_asks_from n state mid g result k t l x y f o u h = by_result result k.is
     where
@@ -99,6 +104,7 @@ module _ {P T R A E : Type 0} (w : World P T Distance E) (size : T → ℕ) (rea
       by_result (CommitErr e) z = ⊎_elim (λ p. distance_asks e p.0 o u p.1.same (let a = p.1.kept in omega (arith, few)) (h r.left.items p.1.kept) (λ s. p.1.failures s ∙ f s)) (λ p. breaks (w.kind e) e g refl p.1 x y p.2 (subst w.fresh (sym p.0) l)) z
 
   -- the kept distance was not skipped
+  -- goal: returns-in-Err-clause-answers
   pub unpassed : {Q : Type 0} (spells : Q → List T → Type 0) (k : Kind) (result : ParseResult A E) → UnconsRange w.counts_failures w.step size spells r.old r.new r.before r.after d (Err k) → NotPassed w.kind k result → w.fresh r.left → (EndsInsideToken size r.old.unread d → read d r.old (Refused false)) → Answers w whole r result
   unpassed {Q = Q} spells k result u n l g = record { is = by_kind k result u.is n.is }
     where

@@ -70,5 +70,6 @@ module _ {P T A E R N : Type 0} (step : P → T → P) (size : T → ℕ) (spell
     back Undecided (inl x) = record { inner = Undecided; meant = (Undecided, x, refl); is = refl }
     back Undecided (inr x) = outcome x.length x.before x.committed x.read Undecided Undecided refl x.waits
 
+    -- goal: returns
     pub is_length_and_items : (o : Outcome R) → composed_prefix v o ↔ is_prefixed v o
     is_length_and_items o = (into o, back o)

@@ -66,19 +66,23 @@ module _ {P T R A S E : Type 0} (w : World P T S E) (read : Reading P T A) (heap
 
 module _ {P T R Q S E : Type 0} (w : World P T S E) (size : T → ℕ) (filled : (t : T) → 0 < size t) (spells : Q → List T → Type 0) (heapless : Type 0) (adds : List (ErrorItem T R) → Type 0) (says : Refusing P T E) (r : CallRecord P T S) where
   module _ (n : ℕ) (l : w.fresh r.left) where
+    -- goal: returns-then-self-gt0-clause-answers
     pub take_commits : (q : Q) → UnconsRange w.counts_failures w.step size spells r.old r.new r.before r.after n (Ok q) → 0 < n → Answers w (stateless (taking size spells n) ⊥ heapless adds says) r (CommitOk q)
     take_commits q u h = record { is = takes_some w (taking size spells n) heapless adds says r q u.is.0 true (record { place = u.is.1; spelled = u.is.2.spelled }, sym (lt-ltb 0 n h)) u.is.2.taken l u.is.2.failures }
 
     pub take_peeks : (q : Q) → UnconsRange w.counts_failures w.step size spells r.old r.new r.before r.after n (Ok q) → n ≡ 0 → Answers w (stateless (taking size spells n) ⊥ heapless adds says) r (PeekOk q)
     take_peeks q u h = record { is = takes_some w (taking size spells n) heapless adds says r q u.is.0 false (record { place = u.is.1; spelled = u.is.2.spelled }, sym (ap (nat_lt 0) h)) u.is.2.taken l u.is.2.failures }
 
+    -- goal: returns-in-Err-clause-answers
     pub take_none : (k : Kind) (result : ParseResult Q E) → UnconsRange w.counts_failures w.step size spells r.old r.new r.before r.after n (Err k) → NoRange w.kind w.heapless r.new.is_open k result → Answers w (stateless (taking size spells n) ⊥ heapless adds says) r result
     take_none k result = takes_no_range w (taking size spells n) heapless adds says r size spells n l (λ i. (Split i, refl)) (λ i o. (Short i o, refl)) (λ i o. record { short = i; is_open = o }) k result
 
   module _ (wanted : Wanted Q) (n : ℕ) (e : n ≡ wanted.items) (l : w.fresh r.left) where
+    -- goal: returns-then-eq-clause-answers
     pub match_commits : (q : Q) (b : Bool) → UnconsRange w.counts_failures w.step size spells r.old r.new r.before r.after n (Ok q) → b ≡ wanted.test q → b ≡ true → Answers w (stateless (matching_range size spells wanted) ⊥ heapless adds says) r (CommitOk q)
     match_commits q b u h t = record { is = takes_some w (matching_range size spells wanted) heapless adds says r q u.is.0 true (record { place = rw e at u.is.1; spelled = u.is.2.spelled }, sym h ∙ t, refl) u.is.2.taken l u.is.2.failures }
 
+    -- goal: returns-in-Ok-reset-clause-answers
     pub match_refuses : (q : Q) (b : Bool) (mid : View P T) (f : Failures) (x : Tracked E) → UnconsRange w.counts_failures w.step size spells r.old mid r.before f n (Ok q) → b ≡ wanted.test q → b ≡ false → (r.new ≡ r.old) × (w.counts_failures → r.after ≡ f) → w.kind x.error ≡ kinds.Refused → Answers w (stateless (matching_range size spells wanted) ⊥ heapless adds says) r (PeekErr x)
     match_refuses q b mid f x u h t back k = takes_nothing w (matching_range size spells wanted) heapless adds says r (PeekErr x) (record { is = inl k }) (Other q u.is.0 (record { place = rw e at u.is.1; spelled = u.is.2.spelled }) (sym h ∙ t), refl) (record { count = 0; taken = rw back.0 (takes_none w.step r.old); state = l }) (λ s. back.1 s ∙ u.is.2.failures s)
 

@@ -9,9 +9,11 @@ use Rattle.combine_range.specs.Prefixes.{FitsNone, OneLength}
 use Rattle.combine_sequence.specs.Then.{ValueAnswersOne}
 
 module _ {P T A E : Type 0} (step : P → T → P) (turned : A → Result ℕ E → Type 0) (r : Reading P T A) (h : OneLength turned r) where
+  -- goal: returns
   pub decides_one : DecidesOne step r (λ at a n. turned a (Ok n)) (FitsNone turned)
   decides_one = record { one = λ v a a' n m k c x y b g d. h.one v a a' n m k c x y (Ok b) (Err d.0) g d.1 }
 
+  -- goal: returns
   pub answers_one : {R N : Type 0} (made : ℕ → N) (means : N → Reading P T R) → ((n : ℕ) → IsSingle (means (made n))) → ValueAnswersOne (changed_reading step (λ at a n. turned a (Ok n)) (FitsNone turned) r) (λ n p. p ≡ made n) means
   answers_one {R} {N} made means single = record { one = λ v a a' n c x y p p' e e'. alike a a' p p' (h.one v x.0 y.0 n n c c x.1 y.1 (Ok a) (Ok a') x.2 y.2) e e' }
     where

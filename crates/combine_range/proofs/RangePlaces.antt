@@ -52,6 +52,7 @@ module _ {P T R : Type 0} {counts_failures : Type 0} {step : P → T → P} {siz
     here : FailsTest size spells w (drop s.count old.unread)
     here = subst (FailsTest size spells w) unread told.is.0
 
+    -- goal: loop-found-preserved
     pub sought_range_more : (next : View P T) (h : Failures) (t : T) → Uncons counts_failures step mid next g h (Ok t) → SoughtRange counts_failures step size spells w old next before h
     sought_range_more next h t u = record {
       count = s.count + 1;
@@ -87,6 +88,7 @@ module _ {P T R : Type 0} {counts_failures : Type 0} {step : P → T → P} {siz
     pub seeks_unread : (next : View P T) (h : Failures) → before.reads ≤ g.reads → Uncons {Token = T} counts_failures step mid next g h (Err kinds.Read) → Seeks counts_failures step size spells w old next before h (Err kinds.Read)
     seeks_unread next h l u = record { is = (let a = u.is.1 in omega arith, moves_more step s.count old mid next (rw told.is.1.same s.taken) u.is.0) }
 
+  -- goal: clause-answers
   pub seeks_here : {mid : View P T} {g : Failures} → TestsHere counts_failures step size spells w now mid f g (Ok (Some true)) → Seeks counts_failures step size spells w old mid before g (Ok true)
   seeks_here t = record {
     is = (
@@ -96,6 +98,7 @@ module _ {P T R : Type 0} {counts_failures : Type 0} {step : P → T → P} {siz
   }
 
   -- too few items are left to compare
+  -- goal: returns-in-Ok-None-clause-seeks
   pub seeks_none : {mid : View P T} {g : Failures} → TestsHere counts_failures step size spells w now mid f g (Ok None) → Seeks counts_failures step size spells w old mid before g (Ok false)
   seeks_none t = record {
     is = (

@@ -43,6 +43,8 @@ module _ {E : Type 0} (kind : E → Kind) (is_open : Bool) (says : Bool → E �
 
 module _ {P T R E : Type 0} {kind : E → Kind} {is_open : Bool} (says : Bool → E → Type 0) {counts_failures : Type 0} {step : P → T → P} {spells : R → List T → Type 0} {old new : View P T} {before after : Failures} {n : ℕ} where
   -- nor is a range that was read again
+  -- goal: returns-then-distance-gt0-clause-refuses
+  -- goal: returns-then-found-clause-refuses
   pub reasons_handed : (result : ParseResult R E) → HandsOutRange counts_failures step spells old new before after n kind result → Reasoned kind is_open says result
   reasons_handed (CommitOk q) h = reasons_ok kind is_open says q
   reasons_handed (PeekOk q) h = reasons_peek_ok kind is_open says q
@@ -57,6 +59,9 @@ module _ {P T R E : Type 0} {kind : E → Kind} {is_open : Bool} (says : Bool �
 
 module _ {V P T E : Type 0} {kind : E → Kind} (says : Bool → E → Type 0) {counts_failures : Type 0} {step : P → T → P} {size : T → ℕ} {old new : View P T} {before after : Failures} {n : ℕ} {state left : Distance} where
   -- nor is need of more
+  -- goal: returns-in-Ok-pass_up_to-clause-refuses
+  -- goal: returns-then-is_partial-clause-refuses
+  -- goal: returns-then-is_undecided_end-clause-refuses
   pub reasons_keeping : (result : ParseResult V E) → KeepsItemDistance counts_failures step size old new before after n kind state left result → old.is_open ≡ true → Reasoned kind new.is_open says result
   reasons_keeping (CommitOk v) h o = absurd h.is
   reasons_keeping (PeekOk v) h o = absurd h.is
@@ -85,6 +90,8 @@ module _ {V T R P E : Type 0} (s : Observers T R P E) (says : Bool → E → Typ
       unread (CommitErr e) a = ⊎_elim (λ p. reasons_fault s.kind new.is_open says e kinds.Read p.0 tt) (λ p. reasons_fault s.kind new.is_open says e kinds.Memory p.0 tt) a.is
       unread (PeekErr t) a = absurd (let i = a.is.1 in cc)
 
+      -- goal: returns-else-may_grow-clause-refuses
+      -- goal: returns-in-Err-clause-refuses
       pub reasons_none : (why : Kind) (result : ParseResult V E) → UnconsRange counts_failures step size spells old new before after n (Err why) → NoRange s.kind s.heapless new.is_open why result → PeeksSaying (says_why s place why) result → Reasoned s.kind new.is_open says result
       reasons_none why result u a b = by_kind why u.is a.is b.is
         where
@@ -98,6 +105,7 @@ module _ {V T R P E : Type 0} (s : Observers T R P E) (says : Bool → E → Typ
 
     -- a kept distance was not skipped
     module _ (h : new ≡ old → EndsInsideToken size old.unread n → (e : E) → New s kinds.Refused place e → says false e) where
+      -- goal: returns-in-Err-clause-refuses
       pub reasons_unpassed : (why : Kind) (result : ParseResult V E) → UnconsRange counts_failures step size spells old new before after n (Err why) → NotPassed s.kind why result → PeeksSaying (New s kinds.Refused place) result → Reasoned s.kind new.is_open says result
       reasons_unpassed why result u a b = by_kind why result u.is a.is b.is
         where
@@ -192,6 +200,7 @@ module _ {P T V R S E : Type 0} (s : Observers T R P E) (size : T → ℕ) (spel
   whole = recognized s size spells step m
 
   module _ (d : ℕ) (first : Bool) (state : RecognizeState S) (i : d ≡ (if first then 0 else state.distance)) (old new : View P T) where
+    -- goal: returns-in-Err-clause-refuses
     pub part_inside : new ≡ old → EndsInsideToken size old.unread d → (e : E) → New s kinds.Refused old.position e → begun_refuses whole first state old new false e
     part_inside q h e n = by_first first i
       where
@@ -200,6 +209,8 @@ module _ {P T V R S E : Type 0} (s : Observers T R P E) (size : T → ℕ) (spel
         by_first false i = record { is = inr (record { peeked = refl; back = q; inside = subst (EndsInsideToken size old.unread) i h; says = n }) }
 
     -- an error of the part, where it was called
+    -- goal: returns-else-needs_more-clause-refuses
+    -- goal: returns-in-PeekErr-clause-refuses
     pub part_behind : ((t : T) → 0 < size t) → (held : S) → held ≡ state.part → (now : View P T) (count : ℕ) → IsItemPlace size old.unread d count → now ≡ advanced step count old → (k : Bool) (e : E) → begun_refuses m first held now new k e → begun_refuses whole first state old new k e
     part_behind filled held same now count place there k e p = by_first first i p
       where

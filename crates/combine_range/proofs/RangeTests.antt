@@ -40,6 +40,7 @@ module _ {T R : Type 0} (size : T → ℕ) (filled : (t : T) → 0 < size t) (sp
   pub fails_of_none : (us : List T) → w.items ≤ size_of size us → (BeginsWithWanted size spells w us → ⊥) → FailsTest size spells w us
   fails_of_none us h n = ⊎_elim (λ p. tested us p.0 (some (take p.0 us)).0 (w.test (some (take p.0 us)).0) p.1 (some (take p.0 us)).1 refl n) Split (place_or_inside size us w.items h)
 
+  -- goal: clause-answers
   pub fails_is : (us : List T) → FailsTest size spells w us ↔ ((w.items ≤ size_of size us) × (BeginsWithWanted size spells w us → ⊥))
   fails_is us = (λ f. (enough_of_fails size spells w us f, fails_begins size spells w filled fair us f), λ p. fails_of_none us p.0 p.1)
 

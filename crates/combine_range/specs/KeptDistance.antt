@@ -23,6 +23,7 @@ module _ {P T R E A : Type 0} where
   abbrev pub kept : (T → ℕ) → (ℕ → Reading P T A) → (List (ErrorItem T R) → Type 0) → (ℕ → Refusing P T E) → Meaning P T R E A Distance
   kept size read adds refuses = record { whole = read 0; rest = λ d. read d.items; lost = λ d v. size_of size v.unread < d.items; keeps = ⊥; puts_back = Unit {0}; heapless = Unit {0}; adds = adds; refuses = refuses 0; refuses_from = λ d. refuses d.items }
 
+  -- goal: laws
   pub kept_is_meaning : (valid : Distance → Type 0) (size : T → ℕ) (read : ℕ → Reading P T A) (adds : List (ErrorItem T R) → Type 0) (refuses : ℕ → Refusing P T E) → ((d : ℕ) → IsReading (read d)) → IsMeaning (λ d. d.items ≡ 0) valid (kept size read adds refuses)
   kept_is_meaning valid size read adds refuses h = record {
     whole = h 0;
@@ -32,6 +33,7 @@ module _ {P T R E A : Type 0} where
     reasons = λ s d v w k e. rw d (λ p. p, λ p. p);
   }
 
+  -- goal: single
   pub kept_means_one : (valid : Distance → Type 0) (size : T → ℕ) (read : ℕ → Reading P T A) (adds : List (ErrorItem T R) → Type 0) (refuses : ℕ → Refusing P T E) → ((d : ℕ) → IsSingle (read d)) → MeansOne valid (kept size read adds refuses)
   kept_means_one valid size read adds refuses h = record { whole = h 0; rest = λ s k. h s.items }
 

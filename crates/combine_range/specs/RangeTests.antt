@@ -60,6 +60,7 @@ module _ {T R : Type 0} (size : T → ℕ) (spells : R → List T → Type 0) (w
           cc
       fails_begins us (Split i) b = i.none b.count b.place
 
+      -- goal: returns-clause-first
       pub first_of_tested : (b : ℕ) (us : List T) (k : ℕ) → FirstTested b us k → IsFirstPlace size spells w b us k
       first_of_tested b us k p = record { later = p.later; within = p.within; begins = p.begins; none = λ j g h. fails_begins (drop j us) (p.fails j g h) }
 

@@ -43,6 +43,7 @@ module _ {P T R E A S : Type 0} (step : P → T → P) (m : Meaning P T R E A S)
       by_kind false e f t = absurd (cc)
 
   -- over a cut inside the running turn, which took n tokens
+  -- goal: clause-answers
   pub over_cut : (x : List T) (i : Bool) → MayFollow old.is_open x i → (bs : List (Block A)) (l : Outcome (Unit {0})) → (first ≡ true → takes_any n bs) → remains step m false s' (extended x i new) bs l → remains step m first s (extended x i old) (longer n bs) l
   over_cut x i f [] l t d = (after n false d.0, r.gives x i d.0 f d.1, stops_whole d.0 l d.2)
   over_cut x i f (b ∷ bs) l t d =

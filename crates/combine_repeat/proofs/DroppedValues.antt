@@ -45,5 +45,6 @@ module _ {P T R E A V S Held : Type 0} (step : P → T → P) (held : V → Held
       (f.0, λ i j q. record { blocks = t.blocks; last = t.last; held = f.0; divided = t.divided; joined = sym (shape_twice i) ∙ ap shape j ∙ t.joined; folded = f.1; collected = q })
 
   -- repetitions that drop their values, related to those that collect them
+  -- goal: returns
   pub repeated_or_skip : DropsValues (appended held none more heapless) collecting dropping
   repeated_or_skip = record { dropped = collected_is_dropped; collected = dropped_is_collected }

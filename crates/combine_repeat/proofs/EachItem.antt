@@ -206,6 +206,8 @@ module _ {N Input It I B C H U Checkpoint T R P E : Type 0} (p : parser.Ghosts N
         record { is = subst (λ y. fails whole_world all (call_from z state old (i.view left) before (i.failures left)) y) (sym m.0) (λ f x. m.1 x.1, leaves) }
 
     -- the item's result is the result of the call
+    -- goal: returns-in-Stops-clause-answers
+    -- goal: returns-in-Stops-parse_item-clause-answers
     pub item_stops : (spared → heapless) → (y : ParseResult C E) → CalledItem p i observers fresh held more heapless input left l state (items.Stops y) → Answers whole_world all (call_from z state old (i.view left) before (i.failures left)) y
     item_stops spares y g = by_answer g.answer g.answers g.did g.keeps
       where
@@ -229,6 +231,8 @@ module _ {N Input It I B C H U Checkpoint T R P E : Type 0} (p : parser.Ghosts N
         by_answer (PeekErr t) a d (inr k) = subst (λ x. Answers whole_world all (call_from z state old (i.view left) before (i.failures left)) x) (stops_as d) (inside_refuses (inside g.stopped) (λ x. k.1) t a)
 
     -- and the error of a refusal is one that the call may have
+    -- goal: returns-in-Stops-clause-refuses
+    -- goal: returns-in-Stops-parse_item-clause-refuses
     pub item_reasons : (y : ParseResult C E) → CalledItem p i observers fresh held more heapless input left l state (items.Stops y) → Reasoned observers.kind (i.view left).is_open (refused_from z old (i.view left)) y
     item_reasons y g = by_answer g.answer (item_meant observers l.before.is_begun g.answers g.refuses) g.did
       where
@@ -248,6 +252,8 @@ module _ {N Input It I B C H U Checkpoint T R P E : Type 0} (p : parser.Ghosts N
         by_answer (PeekErr t) x d = subst (λ y. Reasoned observers.kind (i.view left).is_open (refused_from z old (i.view left)) y) (stops_as d) (reasons_after observers.kind (i.view left).is_open (refused_from z old (i.view left)) l.before.committed t (r.refuses (i.view left) l.before.committed t.error (inl (record { is = inr (refl, reason_peeked observers.kind (i.view left).is_open _ t x) }))))
 
     -- the item was accepted, and the next one follows
+    -- goal: items-init
+    -- goal: items-preserved
     pub item_goes : {valid : U → Type 0} → IsMeaning fresh valid (p.meaning l.parser) → valid l.state → (next : CollectedItems C It) → CalledItem p i observers fresh held more heapless input left l state (items.Goes next) → begins_items state × ReachesItem z old (i.view left) before (i.failures left) next
     item_goes {valid} laws v next g = by_answer g.answer g.answers g.did g.keeps
       where

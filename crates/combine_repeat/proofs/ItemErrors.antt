@@ -31,6 +31,7 @@ module _ {P T R B U E : Type 0} (errors : Observers T R P E) (m : Meaning P T R 
       by_case (inr y) = inr (y.0, peeks_into begun e y.1)
 
 -- the error of a refusal that the item's meaning has
+-- goal: clause-refuses
 pub item_meant : {P T R B U E : Type 0} {w : World P T U E} (errors : Observers T R P E) {m : Meaning P T R E B U} {s left : U} {old new : View P T} {f0 f1 : Failures} (begun : Bool) {y : ParseResult B E} → Answers w m (call_from s left old new f0 f1) y → Reasoned w.kind new.is_open (item_refuses errors m (m.refuses_from s) old new begun) y → Reasoned w.kind new.is_open (item_refuses errors m (refusals_from m s) old new begun) y
 item_meant errors {m = m} {s = s} {old = old} {new = new} begun {y = y} p r k e i = by_kind begun k (refusal_is_meant y p k e i.is) (r k e i)
   where
@@ -46,6 +47,7 @@ item_at_rest h errors false s d begun is_open v w result r = r
 
 module _ {P T R I N B U E : Type 0} (step : P → T → P) (answers : I → N → Type 0) (means : N → Meaning P T R E B U) (errors : Observers T R P E) where
   -- the item's parser was returned for it, and begins
+  -- goal: clause-refuses
   pub next_item_refuses : {fresh valid : U → Type 0} (x : I) (xs : List I) (begun c : Bool) (n : N) → answers x n → IsMeaning fresh valid (means n) → (u : U) → fresh u → (v w : View P T) (k : Bool) (e : E) → from_item step answers means errors (items_refuse step answers means errors xs true) begun c n (refusals_from (means n) u) ((means n).rest u) v w k e → items_refuse step answers means errors (x ∷ xs) begun c v w k e
   next_item_refuses x xs begun c n a laws u d v w k e (inl y) = (n, a, inl (refuses_into errors (means n) (refusals_from (means n) u) (refusals (means n)) (λ v w k e. (refusals_begin laws u d v w k e).0) v w begun c k e y))
   next_item_refuses x xs begun c n a laws u d v w k e (inr y) =

@@ -17,6 +17,7 @@ use Rattle.combine_repeat.specs.declared.iter.IterStep.{IterStep}
 use Rattle.combine_repeat.specs.declared.iter.IterStep.TheVariants.{Gives, Over, Fails}
 
 -- past a block
+-- goal: clause-answers
 pub past_block : {P T R E A S : Type 0} (step : P → T → P) (m m' : Meaning P T R E A S) → MeansSame m m' → (first again : Bool) (s s' : S) (v u : View P T) (b : Block A) → again ≡ true → begun m first s v (outcome b) → is_block_at Unbounded (iter_turn_place first) b.count b.committed ≡ true → u ≡ advanced step b.count v → (bs : List (Block A)) (l : Outcome (Unit {0})) → remains step m' again s' u bs l → remains step m first s v (b ∷ bs) l
 past_block {T = T} step m m' h first again s s' v u b e d j q bs l t =
     let At : Bool → Type 0 = λ k. remains step m' k s' u bs l in
@@ -57,6 +58,7 @@ module _ {P T R A S E : Type 0} (w : World P T S E) (m : Meaning P T R E A S) (r
   fails_here e (Unreset i c y) l q = absurd (subst (λ (k : Kind). error_stops k r.new.is_open l) i q)
 
   -- where the turns end, no block was left
+  -- goal: clause-answers
   pub stops_here : (t : IterStep A E) → IterTurnDid w m r t → (l : Outcome (Unit {0})) → stage_stops w.kind r.new.is_open (iter_stage_after t) l → here l
   stops_here (Gives a) p l q = absurd q
   stops_here Over p l q = over_here p.is l q

@@ -45,6 +45,7 @@ module _ {Self Input Mode Checkpoint Token Range Position Error Output State : T
       by_stage stages.Over q = absurd (false≢true q)
       by_stage (stages.Failed x) q = absurd (false≢true q)
 
+  -- goal: returns-in-Gives-clause-steps
   pub gives_block : (a : Output) → {begins : State → Type 0} → IsMeaning begins p.valid (p.meaning it.parser) → p.valid it.state.now → runs_at it.stage ≡ true → turn_called (Gives a) → first new.mode ≡ true → new.given ≡ true → new.stage ≡ it.stage → new.input.ghost_name ≡ it.input.ghost_name → new.state.ghost_name ≡ it.state.ghost_name → Nexts p i first observers fresh it (Some a) new
   gives_block a laws k e c f g s x y =
       let j = c.turned.is in
@@ -64,6 +65,8 @@ module _ {Self Input Mode Checkpoint Token Range Position Error Output State : T
         state = y;
       }
 
+  -- goal: returns-in-Fails-clause-steps
+  -- goal: returns-in-Over-clause-steps
   pub ends_turns : (t : IterStep Output Error) → runs_at it.stage ≡ true → turn_called t → new.stage ≡ iter_stage_after t → runs_at (iter_stage_after t) ≡ false → new.given ≡ it.given → new.input.ghost_name ≡ it.input.ghost_name → new.state.ghost_name ≡ it.state.ghost_name → Nexts p i first observers fresh it None new
   ends_turns t e c s n g x y =
       record {

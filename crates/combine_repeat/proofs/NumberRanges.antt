@@ -45,5 +45,6 @@ module _ (clones makes : Range ℕ → Range ℕ → Type 0) (list : Range ℕ) 
   starts_there : (clone it : Range ℕ) → (clone.start ≡ list.start) × (clone.end ≡ list.end) × (it ≡ clone) → gives_range (range_with_len list.start (list.end - list.start)) it
   starts_there clone it e = rw e.2 (range_gives (list.end - list.start) list.start clone e.0 (rw (e.0, e.1) refl))
 
+  -- goal: requires
   pub range_lists : (xs : List ℕ) × ListsItems (λ s. Unit {0}) (λ s. at_most (s.end - s.start)) range_calls clones makes list xs
   range_lists = (range_with_len list.start (list.end - list.start), record { each = λ clone it i j. record { is = starts_there clone it (begins clone it i j) } })

@@ -102,5 +102,7 @@ module _ {P T A V : Type 0} (step : P → T → P) (c : Collecting A V) (first l
   back v o (Refused false) r z = record { blocks = []; last = Refused false; held = c.none; divided = (Refused false, r, refl); joined = rw z refl; folded = refl; collected = rw z tt }
   back v o Undecided r z = record { blocks = []; last = Undecided; held = c.none; divided = (Undecided, r, refl); joined = rw z refl; folded = refl; collected = rw z tt }
 
+  -- goal: returns
+  -- goal: returns-clause-turns
   pub own_first_is_one_then_turns : (v : View P T) (o : Outcome V) → own_first_turns v o ↔ one_then_turns step c first later v o
   own_first_is_one_then_turns v o = (forth v o, λ p. back v o p.0 p.1 p.2)

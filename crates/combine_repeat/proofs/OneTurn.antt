@@ -50,6 +50,9 @@ module _ {P T R A S E : Type 0} {w : World P T S E} {m : Meaning P T R E A S} wh
 
 -- a call at the place where it is judged
 module _ {P T R A S E : Type 0} (w : World P T S E) (m : Meaning P T R E A S) (stands : View P T → Type 0) (now : View P T) (after : Failures) (r : CallRecord P T S) (n : CallEndedAt stands now after r) where
+  -- goal: returns-in-Err-clause-halted
+  -- goal: returns-in-First-clause-halted
+  -- goal: returns-in_default-clause-halted
   pub ran_answers : (x : ParseResult A E) → Answers w m r x → Answers w m (then_left r now after) x
   ran_answers x p = rw (sym n.new, sym n.failures) p
 
@@ -151,6 +154,8 @@ module _ {P T R A S E : Type 0} (w : World P T S E) (b : Bounds) (ending : A →
     halted_same (stop.More n e) p = record { needs = p.needs; answers = answers_same w m m' h r (CommitErr e) p.answers; index = p.index; number = p.number; cut = p.cut; turns = p.turns }
     halted_same (stop.Failed e) p = fails_same e p
 
+    -- goal: returns-in-Stops-one_turn-clause-answers
+    -- goal: turns-preserved
     pub turned_same : (x : TurnStep V E) → TurnDid w b ending c m' r t x → TurnDid w b ending c m r t x
     turned_same (steps.Goes n) p = let g = p.is in record { is = record { turn = g.turn; judged = judged_same t.index g.turn true g.judged; held = g.held; more = g.more; turns = g.turns } }
     turned_same (steps.Stops why) p = record { is = halted_same why p.is }

@@ -115,6 +115,9 @@ module _ {P T R A V S E : Type 0} (w : World P T S E) (errors : Observers T R P 
   ReachesBoundedTurn first state old before later turn_first turn_state now failures t = ReachesTurn w (fresh_turns w.fresh) (bounded b ending) (bounded_is_rule b ending) c (λ _. again.reads) (called m again later) (turns_from w.step errors b ending c start m again) first state old before turn_first turn_state now failures (so_far c.held t)
 
   -- in first mode the running turn's state doesn't matter
+  -- goal: returns-in-Stops-clause-answers
+  -- goal: returns-then-is_full-clause-answers
+  -- goal: turns-init
   pub reaches_turn_first : (first : Bool) (state : TurnsState V S) (running : S) (old : View P T) (before : Failures) (from t : TurnProgress V) → so_far c.held from ≡ start → t ≡ (if first then from else kept_or from state.earlier) → (first ≡ false → running ≡ running_turn state) → ReachesBoundedTurn first state old before false first running old before t
   reaches_turn_first true state running old before from t e i j = record {
     progress = rw (i, e) (progress_none w (TurnsOutcome w.step (bounded b ending) c (λ _. again.reads) m.whole start) old before);
@@ -140,6 +143,8 @@ module _ {P T R A V S E : Type 0} (w : World P T S E) (errors : Observers T R P 
   turn_reads valid h later false s k = h.meaning.rest s k
 
   -- a turn that is a block: the next one runs, in first mode
+  -- goal: turns-init
+  -- goal: turns-preserved
   pub reaches_turn_on : (valid : S → Type 0) → IsTurn w.fresh valid m again → (first : Bool) (state : TurnsState V S) (old : View P T) (before : Failures) (later : Bool) (r : CallRecord P T S) (t n : TurnProgress V) → ReachesBoundedTurn first state old before later r.first r.state r.old r.before t → full_at b t.index ≡ false → valid r.state → IsTurnBlock w b ending c (called m again later) r t n → (s : S) → ReachesBoundedTurn first state old before true true s r.new r.after n
   reaches_turn_on valid h first state old before later r t n z nf d g s =
       let u : CallRecord P T (TurnsState V S) = record { first = first; state = state; left = state; old = old; new = old; before = before; after = before } in
@@ -153,6 +158,8 @@ module _ {P T R A V S E : Type 0} (w : World P T S E) (errors : Observers T R P 
   accepted_answer u v false x = record { is = x }
 
   -- no further turn runs
+  -- goal: returns-then-is_full-2-clause-answers
+  -- goal: returns-then-is_full-clause-answers
   pub reaches_turn_full : (u : CallRecord P T (TurnsState V S)) (later turn_first : Bool) (s : S) (t : TurnProgress V) → ReachesBoundedTurn u.first u.state u.old u.before later turn_first s u.new u.after t → full_at b t.index ≡ true → fresh_turns w.fresh u.left → (result : ParseResult V E) → result ≡ accepted_as t.committed t.into → Answers (around w (fresh_turns w.fresh)) (turns_from w.step errors b ending c start m again) u result
   reaches_turn_full u later turn_first s t z f l result e =
       let running = begun (called m again later) turn_first s in
@@ -214,6 +221,8 @@ module _ {P T R A V S E : Type 0} (w : World P T S E) (errors : Observers T R P 
       comes_fails e (Untold y i x) l = record { is = rw i (λ f q. x f, record { count = z.progress.count + y.leaves.count; taken = takes_more w.step z.progress.count y.leaves.count u.old r.old u.new z.progress.taken (rw new y.leaves.taken); state = settled l y.leaves.state }) }
       comes_fails e (Unreset i j y) l = turn_unreset w (fresh_turns w.fresh) (bounded b ending) (bounded_is_rule b ending) c (λ _. again.reads) (called m again later) (turns_from w.step errors b ending c start m again) u r (so_far c.held t) z nf e i (rw failures (omega arith)) (ends l) y
 
+      -- goal: returns-in-Stops-clause-answers
+      -- goal: returns-in-Stops-one_turn-clause-answers
       pub reaches_turn_stopped : (why : TurnStop V E) → turns_halted w b ending c (called m again later) r t why → u.left ≡ stopped_state why state → Answers (around w (fresh_turns w.fresh)) (turns_from w.step errors b ending c start m again) u (stopped_answer why)
       reaches_turn_stopped (stop.Over n) p l = comes_over n p l
       reaches_turn_stopped (stop.Refused n e) p l = comes_refused n e p l

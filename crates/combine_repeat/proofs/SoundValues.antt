@@ -27,6 +27,9 @@ module _ {P T R A S E : Type 0} (w : World P T S E) (valid : S → Type 0) (m : 
   given true false s d = h.first.rest s d
   given false false s d = h.first.rest s d
 
+  -- goal: gather_turn-requires
+  -- goal: turns-init
+  -- goal: turns-preserved
   pub turn_able : (later : Bool) (r : CallRecord P T S) → valid r.state → (a : A) (b : Bool) → Accepts w (called m again later) r a b → able a
   turn_able later r d a b x = k a ((given later r.first r.state d).one r.old a x.count b x.meant)
 
@@ -55,6 +58,8 @@ module _ {A V : Type 0} (b : Bounds) (ending : A → Bool) (sound : Bool → V �
   full_sound t h f left result e i = rw i (record { kept = λ n j. absurd (cc); value = accepted_sound _ t.committed t.into (record { place = t.index; ends = Full f; is = h }) })
 
 module _ {P T R A V S E : Type 0} (w : World P T S E) (c : Collecting A V) (able : A → Type 0) (sound : Bool → c.Held → Type 0) (h : KeepsSound c.none c.more able sound) (m : Meaning P T R E A S) (r : CallRecord P T S) (b : Bounds) (ending : A → Bool) (old : TurnProgress V) (s : sound_at (λ k i. sound k (c.held i)) old) where
+  -- goal: turns-init
+  -- goal: turns-preserved
   pub goes_sound : (n : TurnProgress V) → (g : IsTurnBlock w b ending c m r old n) → able g.turn.0 → sound_at (λ k i. sound k (c.held i)) n
   goes_sound n g a = let e = ap (λ x. x.held) g.turns in rw e (h.stays (nat_lt 0 old.index.number) (c.held old.into) g.turn.0 g.held s a g.more (nat_lt 0 n.index.number))
 
@@ -68,5 +73,7 @@ module _ {P T R A V S E : Type 0} (w : World P T S E) (c : Collecting A V) (able
   stopped (stop.More n x) p state e = record { kept = λ t i. let j = p.turns in let u : n ≡ t = cc in rw (sym u) (rw (j, p.number) s); value = tt }
   stopped (stop.Failed x) p state e = record { kept = λ t i. absurd (cc); value = tt }
 
+  -- goal: returns-in-Stops-clause-sound
+  -- goal: returns-in-Stops-one_turn-clause-sound
   pub stopped_sound : (why : TurnStop V E) → turns_halted w b ending c m r old why → (state left : TurnsState V S) (result : ParseResult V E) → state.earlier ≡ Nothing → left ≡ stopped_state why state → result ≡ stopped_answer why → LeavesSound b ending (λ k i. sound k (c.held i)) left result
   stopped_sound why p state left result e i j = rw (i, j) (stopped why p state e)

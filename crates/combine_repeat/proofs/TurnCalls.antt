@@ -65,6 +65,7 @@ module _ {P T R A V S U E Mark : Type 0} (w : World P T S E) (fresh : U → Type
     turn_refuses i k d j e y a = record { meant = stops i (Refused k) (Refused (s.committed || k)) d j refl tt; leaves = leaves e y; failures = unchanged e.failures a }
 
     -- a peeked refusal that ends the turns, put back
+    -- goal: clause-answers
     pub turn_ends : (v : V) (result : ParseResult V E) → rule.judge s.mark (Refused false) ≡ StopsTurns (Accepted tt 0 false) → c.held v ≡ s.held → result ≡ accepted_as s.committed v → Refuses w m r false → u.new ≡ r.old → (w.fresh r.left → fresh u.left) → (w.counts_failures → u.after ≡ r.after) → Answers (around w fresh) whole u result
     turn_ends v result j h i y n l a = rw i (by_commitment s.committed (rw (or_false s.committed) at accepted))
       where
@@ -76,6 +77,7 @@ module _ {P T R A V S U E Mark : Type 0} (w : World P T S E) (fresh : U → Type
         by_commitment false x = record { is = x }
 
     -- a peeked refusal that is the refusal of the whole, committed if a block was
+    -- goal: clause-answers
     pub turn_peeks : (e : Tracked E) (result : ParseResult V E) → rule.judge s.mark (Refused false) ≡ StopsTurns (Refused false) → result ≡ refused_as s.committed e → Answers w m r (PeekErr e) → EndsWithTurn → Answers (around w fresh) whole u result
     turn_peeks e result j i p k = rw i (by_commitment s.committed refused)
       where
@@ -123,6 +125,7 @@ module _ {P T R A V S U E Mark : Type 0} (w : World P T S E) (fresh : U → Type
     turn_unreset d e b k y = unreset (around w fresh) whole u d e (leaves k y) b
 
     -- a turn is a block: the next one begins
+    -- goal: clause-answers
     pub turn_goes : IsReading (begun m r.first r.state) → (a : A) (k : Bool) (h : c.Held) (p : Accepts w m r a k) → rule.judge s.mark (Accepted a p.count k) ≡ TakesBlock → c.more s.held a h → Progress w (begun whole u.first u.state) (TurnsOutcome w.step rule c turn (turn (rule.next s.mark)) (after_a_block w.step rule hr c turn s h k)) u.old r.new u.before r.after
     turn_goes i a k h p j q =
         let running = begun m r.first r.state in
@@ -138,6 +141,7 @@ module _ {P T R A V S U E Mark : Type 0} (w : World P T S E) (fresh : U → Type
       pub new : u.new ≡ r.new
       pub failures : w.counts_failures → u.after ≡ r.after
 
+    -- goal: clause-answers
     pub turn_asks : rule.judge s.mark Undecided ≡ StopsTurns Undecided → (p : Asks w m r) → KeepsTurn p.count → Asks (around w fresh) whole u
     turn_asks j p k =
         let running = begun m r.first r.state in
@@ -185,5 +189,6 @@ module _ {P T R A V S U E Mark : Type 0} (w : World P T S E) (fresh : U → Type
         losing false true i j y = absurd (let x = (z.lost i y.0).0 in cc)
         losing false false i j y = ((z.lost i y.0).1, leaves (over_ends k) y.1)
 
+    -- goal: clause-answers
     pub turn_fails : (e : E) → ((w.kind e ≡ kinds.End) × (r.new.is_open ≡ true) → ⊥) → Answers w m r (CommitErr e) → Over → Answers (around w fresh) whole u (CommitErr e)
     turn_fails e q p k = settles w fresh m whole r u e q p (over_settles k)

@@ -59,6 +59,8 @@ module _ {P T R A V S E : Type 0} (step : P → T → P) (errors : Observers T R
     accepted false v k e x = x
 
     -- the turn that stops the turns
+    -- goal: returns-in-Stops-clause-refuses
+    -- goal: returns-in-Stops-one_turn-clause-refuses
     pub stops_leading : (t : TurnProgress V) → full_at b t.index ≡ false → LeadsRefusals first state begun_at s t.index t.committed old → (why : TurnStop V E) → StopRefuses step errors b ending s old new t why → ReasonedCall errors (turns_from step errors b ending c start m again) first state begun_at new (stopped_answer why)
     stops_leading t nf h (stop.Over n) x k e i = absurd (accepted n.committed n.into k e i.is)
     stops_leading t nf h (stop.Refused n r) x k e i =
@@ -78,6 +80,8 @@ module _ {P T R A V S E : Type 0} (w : World P T S E) (errors : Observers T R P 
       let z = subst (λ v. RefusesOnward w.step errors b ending again again (turn_after b g) (k || committed) v left d e) j y in
       record { blocks = record { value = a; count = n; committed = committed } ∷ z.blocks; is = (nf, p, q, z.is) }
 
+  -- goal: turns-init
+  -- goal: turns-preserved
   pub leads_on : (later : Bool) (r : CallRecord P T S) (t n : TurnProgress V) (first : Bool) (state : TurnsState V S) (old : View P T) → full_at b t.index ≡ false → IsTurnBlock w b ending c (called m again later) r t n → LeadsRefusals w.step errors b ending c start m again first state old (started (called m again later) r.first r.state) t.index t.committed r.old → LeadsRefusals w.step errors b ending c start m again first state old again n.index n.committed r.new
   leads_on later r t n first state old nf g h =
       let a = g.judged.accepts in
@@ -93,6 +97,8 @@ module _ {P T R A V S E : Type 0} (step : P → T → P) (errors : Observers T R
   committed_of Nothing = refl
   committed_of (Gathered t) = refl
 
+  -- goal: returns-in-Stops-clause-refuses
+  -- goal: turns-init
   pub leads_first : (first : Bool) (state : TurnsState V S) (s : S) (t : TurnProgress V) (old : View P T) → t ≡ (if first then from else kept_or from state.earlier) → (first ≡ false → s ≡ running_turn state) → LeadsRefusals step errors b ending c (so_far c.held from) m again first state old (started (called m again false) first s) t.index t.committed old
   leads_first true state s t old i j = leads_from step errors b ending c (so_far c.held from) m again true state s t.index t.committed old (λ x. (subst (λ (z : TurnProgress V). z.index ≡ from.index) (sym i) refl, subst (λ (z : TurnProgress V). z.committed ≡ from.committed) (sym i) refl)) (λ x. absurd (cc))
   leads_first false state s t old i j = leads_from step errors b ending c (so_far c.held from) m again false state s t.index t.committed old (λ x. absurd (cc)) (λ x. (j refl, subst (λ (z : TurnProgress V). z.index ≡ (so_far_or (so_far c.held from) c.held state.earlier).mark) (sym i) (place_of state.earlier), subst (λ (z : TurnProgress V). z.committed ≡ (so_far_or (so_far c.held from) c.held state.earlier).committed) (sym i) (committed_of state.earlier)))
@@ -114,5 +120,6 @@ module _ {P T R A V E : Type 0} (step : P → T → P) (errors : Observers T R P
   stops_into (stop.Failed d) x = record { is = λ i. here_into step errors b ending s s' h t.index old new true d (x.is i) }
 
 -- the stop of a turn that means the same, related to the stop of the call
+-- goal: returns-in-Stops-one_turn-clause-refuses
 pub stops_same : {P T R A V S E : Type 0} (step : P → T → P) (errors : Observers T R P E) (b : Bounds) (ending : A → Bool) (m m' : Meaning P T R E A S) → MeansSame m m' → (first : Bool) (s : S) (old new : View P T) (t : TurnProgress V) (why : TurnStop V E) → StopRefuses step errors b ending (started m' first s) old new t why → StopRefuses step errors b ending (started m first s) old new t why
 stops_same step errors b ending m m' h first s old new t = stops_into step errors b ending (started m' first s) (started m first s) (started_into m m' h first s) old new t

@@ -15,6 +15,7 @@ module _ {A V : Type 0} (c : Collecting A V) where
 
 module _ {P T A V Mark : Type 0} (step : P → T → P) (rule : Rule A Mark) (hr : IsRule rule) (c : Collecting A V) (turn : Mark → Reading P T A) where
   -- a place where the turns stop
+  -- goal: clause-answers
   pub turned_stop : (running : Reading P T A) (s : TurnsSoFar Mark c.Held) (v : View P T) (i : Outcome A) (l : Outcome (Unit {0})) (o : Outcome V) → running v i → rule.full s.mark ≡ false → rule.judge s.mark i ≡ StopsTurns l → shape o ≡ after 0 s.committed l → HoldsCollected c o s.held → TurnsOutcome step rule c turn running s v o
   turned_stop running s v i l o d nf j e q = record { blocks = []; last = l; held = s.held; divided = rw nf (i, d, j); joined = e ∙ ap (λ b. after 0 b l) (sym (or_false s.committed)); folded = refl; collected = q }
 
@@ -32,6 +33,7 @@ module _ {P T A V Mark : Type 0} (step : P → T → P) (rule : Rule A Mark) (hr
   after_a_block s h k = record { mark = rule.next s.mark; held = h; committed = s.committed || k }
 
   -- past a block
+  -- goal: clause-answers
   pub turned_block : (running : Reading P T A) → IsReading running → (s : TurnsSoFar Mark c.Held) (h : c.Held) (v : View P T) (b : Block A) → running v (outcome b) → rule.full s.mark ≡ false → rule.judge s.mark (outcome b) ≡ TakesBlock → c.more s.held b.value h → Resumes (TurnsOutcome step rule c turn running s) (TurnsOutcome step rule c turn (turn (rule.next s.mark)) (after_a_block s h b.committed)) b.count v (advanced step b.count v)
   turned_block running hf s h v b d nf j q = record { gives = giving; committed = committing }
     where
@@ -64,6 +66,7 @@ module _ {P T A V Mark : Type 0} (step : P → T → P) (rule : Rule A Mark) (hr
   after_a_cut s n = record { mark = rule.cut s.mark n; held = s.held; committed = s.committed }
 
   -- over a cut inside a turn, which took n tokens
+  -- goal: clause-answers
   pub turned_cut : (running left : Reading P T A) (s : TurnsSoFar Mark c.Held) (n : ℕ) (v w : View P T) → rule.full s.mark ≡ false → Takes step n v w → Resumes running left n v w → Resumes (TurnsOutcome step rule c turn running s) (TurnsOutcome step rule c turn left (after_a_cut s n)) n v w
   turned_cut running left s n v w nf tk r = record { gives = λ x m o f t. giving x m o f t.blocks t.last t.held t.divided t.joined t.folded t.collected; committed = λ x m o f z t. committing x m o f z t.blocks t.last t.divided t.joined }
     where

@@ -131,6 +131,9 @@ module _ {P T R E I N It B C H U : Type 0} (step : P → T → P) (errors : Obse
     reasoning states.Start d v w k e = (λ x. x, λ x. x)
     reasoning (states.Running l) d v w k e = absurd d
 
+    -- goal: returns-in-Err-clause-answers
+    -- goal: returns-in-Stops-clause-answers
+    -- goal: returns-in-Stops-clause-refuses
     pub iterated_is_meaning : IsMeaning begins_items (valid_item (KeptOf lawful means some) valid at) iterated
     iterated_is_meaning = record { whole = whole_is_reading; rest = rest_is_reading; start = starts; found = finds; reasons = reasoning }
 

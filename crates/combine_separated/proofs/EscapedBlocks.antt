@@ -81,6 +81,7 @@ module _ {P T A B : Type 0} (step : P → T → P) (is_escape : T → Bool) (pla
   back v o Undecided m e = subst (choice v) (sym e) (Here m tt)
 
   -- so turns of that choice are blocks
+  -- goal: returns
   pub choices_are_blocks : (v : View P T) (o : Outcome Unit) → TurnsOutcome step (bounded Unbounded no_value_ends) dropped (λ _. choice) choice (none_yet tt) v o ↔ escaped_blocks step is_escape plain escaped v o
   choices_are_blocks v o = (
     turned_into step (bounded Unbounded no_value_ends) dropped (λ _. choice) (λ _. block) (λ g. into) choice block into (none_yet tt) v o,

@@ -9,11 +9,13 @@ use Rattle.combine_separated.specs.declared.operands.PendingOperand.{PendingOper
 
 module _ {O V : Type 0} (post : O → V → V → V → Type 0) where
   -- one operator less
+  -- goal: folding-preserved
   pub fold_last : (xs : List (PendingOperand O V)) (x : PendingOperand O V) (last b r : V) → post x.operator x.operand last b → folded_right post xs b r → folded_right post (xs ++ x ∷ []) last r
   fold_last [] x last b r p h = (last, refl, rw h p)
   fold_last (y ∷ xs) x last b r p h = (h.0, fold_last xs x last b h.0 p h.1, h.2)
 
   -- no operator is left
+  -- goal: returns
   pub fold_none : (xs : List (PendingOperand O V)) (last : V) → length xs ≡ 0 → folded_right post xs last last
   fold_none [] last e = refl
   fold_none (x ∷ xs) last e = absurd (omega arith)

@@ -77,6 +77,7 @@ module _ {P T R A B S S' E : Type 0} (w : World P T S E) (fresh : S' → Type 0)
       over left d (CommitErr e) n a = inside_fails (inside left) (λ k. d) e n a
       over left d (PeekErr t) n a = inside_refuses (inside left) (λ k. d) t a
 
+    -- goal: clause-answers
     pub placed : BeginsAsPart → Keeping → (valid : S → Type 0) (start left : S') → fresh start → (old new : View P T) (before after : Failures) (result : ParseResult B E) → RanPart w m valid f keep part_state start left old new before after result → Answers (around w fresh) m' (record { first = first; state = given; left = left; old = old; new = new; before = before; after = after }) result
     placed z k valid start left d old new before after result p = rw p.is (by_left p.leaves)
       where

@@ -35,6 +35,7 @@ module _ {P T R A B S S' E : Type 0} (w : World P T S E) (m : Meaning P T R E A 
 
 module _ {P T R A B S S' E : Type 0} (w : World P T S E) (m : Meaning P T R E A S) (valid : S → Type 0) (f : A → B) (keep : S → S') where
   -- its errors are those of the call
+  -- goal: clause-refuses
   pub ran_reasons : {state : S} {start left : S'} {old new : View P T} {before after : Failures} {result : ParseResult B E} → RanPart w m valid f keep state start left old new before after result → Reasoned w.kind new.is_open (m.refuses_from state old new) result
   ran_reasons {state} {old = old} {new = new} p = rw p.is (by_case p.answer p.refuses)
     where

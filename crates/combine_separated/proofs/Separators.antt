@@ -20,6 +20,7 @@ use Rattle.combine_separated.specs.declared.pair.PairState.TheVariants.{Separato
 
 module _ {P T R E O W U : Type 0} {valid : W → Type 0} {s : Meaning P T R E O W} {good : O → Type 0} where
   -- the kept value is good
+  -- goal: requires
   pub led_good : GivesOnly valid s good → (part : U → Type 0) (from left : PairState O W U) → led_valid good valid part from → LedBy s from left → pair_good good left
   led_good h part (Separator w) (Separator x) d e = tt
   led_good h part (Separator w) (Part o c u) d e = let i = e.is in (h.rest w d.1).one i.0 o i.1 i.2 i.3

@@ -50,6 +50,7 @@ module _ {P T R E O A V U W : Type 0} (step : P → T → P) (errors : Observers
   pub joined_means_one : (good : O → Type 0) (valid : U → Type 0) (valid' : W → Type 0) (m : Meaning P T R E A U) (s : Meaning P T R E O W) → MeansOne valid m → MeansOne valid' s → MeansOne (λ (z : TurnsState V (SeparatedState O W U)). separated_valid valid (led_valid good valid' valid) (running_turn z)) (elements_meaning step errors b c m s)
   joined_means_one good valid valid' m s h k = turns_means_one step errors b no_value_ends c (none_yet c.none) (separated_valid valid (led_valid good valid' valid)) (first_then first_element then_element m (pair step errors s m)) (later_turn then_element (pair step errors s m)) (then_once first_element then_element h (led_means_one good valid' valid (pair_means_one step errors k h)))
 
+  -- goal: returns-clause-same
   pub joined_means_same : (m m' : Meaning P T R E A U) (s s' : Meaning P T R E O W) → MeansSame m m' → MeansSame s s' → MeansSame (elements_meaning step errors b c m s) (elements_meaning step errors b c m' s')
   joined_means_same m m' s s' h k = turns_means_same step errors b no_value_ends c (none_yet c.none) (first_then first_element then_element m (pair step errors s m)) (first_then first_element then_element m' (pair step errors s' m')) (later_turn then_element (pair step errors s m)) (later_turn then_element (pair step errors s' m')) (then_same first_element then_element m m' (pair step errors s m) (pair step errors s' m') h (pair_means_same step errors k h))
 

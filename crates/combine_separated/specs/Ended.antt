@@ -83,6 +83,7 @@ module _ {P T A B C : Type 0} (step : P → T → P) (f : A → B → C) (e : C 
   continued u n n' m m' k k' j j' a a' c c' Undecided o h p p' y y' = absurd (cc)
 
   -- a parser after another, whose values alone decide
+  -- goal: laws
   pub sequel_alike : IsSingle r → EndsAlike d q → EndsAlike e (sequel step f r (λ _. q))
   sequel_alike g h = record { ends = λ v c c' m m' j j' w w'. by_first v c c' m m' j j' w.0 w'.0 w.1 w'.1 (g.one v w.0 w'.0 w.1 w'.1) w.2 w'.2 }
     where
@@ -97,6 +98,7 @@ module _ {P T A B C : Type 0} (step : P → T → P) (f : A → B → C) (e : C 
 
 module _ {P T A : Type 0} where
   -- a value and no value never share a list
+  -- goal: laws
   pub optional_alike : (r : Reading P T A) → IsSingle r → EndsAlike is_none (OrElse (mapped_reading r is_some) nothing_taken)
   optional_alike r h = record { ends = by_cases }
     where
@@ -157,6 +159,7 @@ module _ {P T R E A B U W : Type 0} (step : P → T → P) (errors : Observers T
   ends_at (Before z) d = sequel_alike step put_to (λ x. is_none (after_separator x)) is_none (λ a b. refl) (s.rest z) (optional m).whole (k.rest z d) (optional_alike m.whole h.whole)
   ends_at (Last l) d = following_alike l.committed (put_to l.value) (λ x. is_none (after_separator x)) ((optional m).rest l.state) (optional_alike (m.rest l.state) (h.rest l.state d))
 
+  -- goal: single
   pub ended_once : TurnsOnce (separated_valid valid (pair_valid valid' valid)) is_none (first_then some_of after_separator m last_pair) (later_turn after_separator last_pair)
   ended_once = record {
     whole = first m.whole h.whole;

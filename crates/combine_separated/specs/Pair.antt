@@ -66,6 +66,8 @@ module _ {P T R E O V W U : Type 0} (step : P → T → P) (errors : Observers T
   pub pair_means_one : {valid : W → Type 0} {s : Meaning P T R E O W} {part_valid : U → Type 0} {m : Meaning P T R E V U} → MeansOne valid s → MeansOne part_valid m → MeansOne (pair_valid valid part_valid) (pair s m)
   pair_means_one h k = followed_means_one step errors pair_place put_to h k
 
+  -- goal: returns-clause-same
+  -- goal: returns-in-First-clause-same
   pub pair_means_same : {s s' : Meaning P T R E O W} {m m' : Meaning P T R E V U} → MeansSame s s' → MeansSame m m' → MeansSame (pair s m) (pair s' m')
   pair_means_same h k = followed_means_same step errors pair_place put_to h k
 

@@ -28,6 +28,7 @@ module _ {P T R E O A V U W : Type 0} (step : P → T → P) (errors : Observers
   pub sep_end_means_one : (valid : U → Type 0) (valid' : W → Type 0) (m : Meaning P T R E A U) (s : Meaning P T R E O W) → MeansOne valid m → MeansOne valid' s → MeansOne (λ (z : TurnsState V (SeparatedState O W U)). separated_valid valid (pair_valid valid' valid) (running_turn z)) (sep_end m s)
   sep_end_means_one valid valid' m s h k = turns_means_one step errors b is_none (somes c) (none_yet c.none) (separated_valid valid (pair_valid valid' valid)) (first_then some_of after_separator m (pair step errors s (optional m))) (later_turn after_separator (pair step errors s (optional m))) (ended_once step errors valid valid' m s h k)
 
+  -- goal: returns-clause-same
   pub sep_end_means_same : (m m' : Meaning P T R E A U) (s s' : Meaning P T R E O W) → MeansSame m m' → MeansSame s s' → MeansSame (sep_end m s) (sep_end m' s')
   sep_end_means_same m m' s s' h k = turns_means_same step errors b is_none (somes c) (none_yet c.none) (first_then some_of after_separator m (pair step errors s (optional m))) (first_then some_of after_separator m' (pair step errors s' (optional m'))) (later_turn after_separator (pair step errors s (optional m))) (later_turn after_separator (pair step errors s' (optional m'))) (then_same some_of after_separator m m' (pair step errors s (optional m)) (pair step errors s' (optional m')) h (pair_means_same step errors k (optional_means_same m m' h)))
 

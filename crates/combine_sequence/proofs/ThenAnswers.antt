@@ -82,6 +82,7 @@ module _ {N Input V A B C S U Checkpoint T R P E : Type 0} (p : parser.Ghosts N 
       by_need (inr j) = answered_starts_valid kept p.valid h state j.1
 
   -- a call that resumes the returned parser
+  -- goal: returns-in-Second-clause-answers
   pub then_resumes : {input left : Input} {l : AnsweredProgress V N U} {z state : AnsweredState S V N U} {y : ParseResult C E} → z ≡ Second l → kept l.parser → CalledAnswered p i observers last_fresh fresh join input left l state y → Answers all_world both (call_from z state (i.view input) (i.view left) (i.failures input) (i.failures left)) y
   then_resumes {input} {left} {l} {z} {state} {y} is d g =
       let e = ap step_of is in
@@ -104,6 +105,7 @@ module _ {N Input V A B C S U Checkpoint T R P E : Type 0} (p : parser.Ghosts N 
       pub peeked_at : (a : A) → Answers first_world m (call_of first at stopped input mid) (PeekOk a) → (count : ℕ) × m.rest at (i.view input) (Accepted a count false)
       peeked_at a x = let y = (first_at_rest x).is in (y.count, y.meant)
 
+      -- goal: returns-in-CommitErr-clause-answers
       pub then_stops : {x : E} {state : AnsweredState S V N U} → step_of state ≡ Before stopped → Answers first_world m (call_of first at stopped input mid) (CommitErr x) → Answers all_world both (call_from z state (i.view input) (i.view mid) (i.failures input) (i.failures mid)) (CommitErr x)
       then_stops {x} {state} d a = stops_before i.step observers i.counts_failures fresh step_of m second at stopped z state (ap step_of is) (i.view input) (i.view mid) (i.failures input) (i.failures mid) x d (first_at_rest a)
 
@@ -119,6 +121,7 @@ module _ {N Input V A B C S U Checkpoint T R P E : Type 0} (p : parser.Ghosts N 
             let into : (v : View P T) (o : Outcome C) → following c (join (keep a)) ((p.meaning n).rest u) v o → following c (join (keep a)) (second.whole a) v o = λ v o f. (f.0, (n, j, (k.start u v f.0 b).0 f.1), f.2) in
             runs_answer i.step observers i.counts_failures fresh step_of m second (p.meaning n) last_fresh p.valid c (join (keep a)) (kept_with l g.parser) (holds l w g.parser g.same) u z state (i.view input) (i.view mid) (i.view left) (i.failures input) (i.failures mid) (i.failures left) (progress_left last_world (both.rest z) (following c (join (keep a)) (second.whole a)) (following c (join (keep a)) ((p.meaning n).rest u)) (i.view input) (i.view mid) (i.failures input) (i.failures mid) into q) reads resets (λ f. absurd (k.found u (i.view mid) b f)) y g.runs
 
+        -- goal: returns-clause-answers
         pub then_commits : Answers first_world m (call_of first at stopped input mid) (CommitOk a) → CalledAnswered p i observers last_fresh fresh join mid left (record { value = keep a; parser = n; committed = true; state = u }) state y → Answers all_world both (call_from z state (i.view input) (i.view left) (i.failures input) (i.failures left)) y
         then_commits x g = goes_on true (first_at_rest x).is g
 

@@ -170,10 +170,16 @@ module _ {P T R E A V B C N S U : Type 0} (step : P → T → P) (errors : Obser
   abbrev pub then_meaning : Meaning P T R E A S → (N → Meaning P T R E B U) → Meaning P T R E C (AnsweredState S V N U)
   then_meaning m means = sequence step step_of m (answered_for_value errors keep join answers means some)
 
+  -- goal: returns-clause-same
+  -- goal: returns-in-CommitErr-clause-same
+  -- goal: returns-in-PeekErr-clause-same
   pub then_means_same : {m m' : Meaning P T R E A S} (means : N → Meaning P T R E B U) → MeansSame m m' → MeansSame (then_meaning m means) (then_meaning m' means)
   then_means_same {m} {m'} means h = sequence_means_same step step_of m m' (answered_for_value errors keep join answers means some) (answered_for_value errors keep join answers means some) h (answered_same errors keep join answers means some)
 
   module _ (lawful : N → Type 0) {valid : S → Type 0} {m : Meaning P T R E A S} {last_valid : U → Type 0} {means : N → Meaning P T R E B U} where
+    -- goal: returns-clause-answers
+    -- goal: returns-clause-refuses
+    -- goal: returns-in-CommitErr-clause-answers
     pub then_is_meaning : {fresh : S → Type 0} {last_fresh : U → Type 0} → IsMeaning fresh valid m → ((n : N) → lawful n → IsMeaning last_fresh last_valid (means n)) → GivesOnly valid m (λ a. (n : N) → answers a n → lawful n) → IsMeaning (starts_first fresh) (valid_answered valid (KeptOf lawful means some) last_valid) (then_meaning m means)
     then_is_meaning {fresh} {last_fresh} h k g =
         sequence_is_meaning step step_of m (answered_for_value errors keep join answers means some) fresh valid (valid_last (KeptOf lawful means some) last_valid) h (answered_is_second errors keep join answers means some lawful k g)

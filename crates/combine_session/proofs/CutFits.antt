@@ -31,6 +31,7 @@ module _ (is_place : ℕ → Type 0) (cuts : List ℕ) where
       omega arith
 
   module _ (n latest : ℕ) (f : FitSoFar is_place cuts n latest) where
+    -- goal: loop-cut-preserved
     pub fit_more : latest ≤ get_or cuts n 0 → is_place (get_or cuts n 0) → FitSoFar is_place cuts (n + 1) (get_or cuts n 0)
     fit_more l p = record {
       rising = λ i h. ⊎_elim (rises_to i n latest f.behind l) (f.rising i) (eq-or-lt_of_le (let w : i + 1 ≤ n = omega arith in w));
@@ -44,5 +45,6 @@ module _ (is_place : ℕ → Type 0) (cuts : List ℕ) where
     pub fit_misplaced : n < length cuts → (is_place (get_or cuts n 0) → ⊥) → (false ≡ true) ↔ CutsFit is_place cuts
     fit_misplaced h d = (λ z. absurd (cc), λ g. absurd (d (g.placed n h)))
 
+    -- goal: returns
     pub fit_all : length cuts ≤ n → (true ≡ true) ↔ CutsFit is_place cuts
     fit_all h = (λ z. record { rising = λ i l. f.rising i (omega arith); placed = λ i l. f.placed i (omega arith) }, λ g. refl)

@@ -123,12 +123,14 @@ module _ {P T R E A S : Type 0} (errors : Observers T R P E) (step : P → T →
             answered (answers.Refused e n k) (Refused k) (λ x. (x, q.2)) r tt q.0
 
         -- n windows needed more, one at each cut before this one
+        -- goal: returns-in_default
         pub decided_at_cut : (n : ℕ) → n ≡ i → (a : Answer A E) (r : Result (Answer A E) Kind) → a ≢ answers.More → r ≡ Ok a → Parsed r → RunsCuts errors step start m whole number at (Ok (n, a))
         decided_at_cut n c a r d e p = record { is = subst (λ j. DecidedAfterCuts errors step start m whole number at j a) (sym c) (decided_here a d (subst Parsed e p)) }
 
         pub stops_by : (k : Kind) (r : Result (Answer A E) Kind) → r ≡ Err k → Parsed r → RunsCuts errors step start m whole number at (Err k)
         stops_by k r e p = record { is = window_judged errors step start m whole s t cut here counts_failures fresh left true taken (Err k) (subst Parsed e p) }
 
+        -- goal: loop-cut-preserved
         pub asked_at_cut : (r : Result (Answer A E) Kind) → r ≡ Ok answers.More → Parsed r → AskedAtCuts left taken (i + 1)
         asked_at_cut r z x =
             let p = subst Parsed z x in
@@ -167,6 +169,7 @@ module _ {P T R E A S : Type 0} (errors : Observers T R P E) (step : P → T →
               all_asked (answers.Refused e n k) (decides (Refused k) (on_all false (Refused k) q.0), q.2) q.1
 
           -- n windows needed more, as many as there are cuts
+          -- goal: returns-clause-runs
           pub decided_after_cuts : (n : ℕ) → n ≡ i → (a : Answer A E) (r : Result (Answer A E) Kind) → r ≡ Ok a → Ended r → RunsCuts errors step start m whole number at (Ok (n, a))
           decided_after_cuts n c a r e p = record { is = subst (λ j. DecidedAfterCuts errors step start m whole number at j a) (sym c) (decided_there a (subst Ended e p)) }
 

@@ -171,6 +171,7 @@ module _ {P T R E A S : Type 0} (meaning : P → Meaning ℕ T R E A S) (m : Mea
     decided_at_end (answers.Refused e t k) h = ended (answers.Refused e t k) (last (Refused k) (ended_now _ h).is.means.is)
 
 -- nothing is fed yet
+-- goal: returns
 pub before_any_piece : {P T R E A S : Type 0} {most : Option ℕ} (meaning : P → Meaning ℕ T R E A S) (valid : S → Type 0) (determined : P → Type 0) (p : P) (c : Course P T S) → BeginsSession meaning valid determined most p c → AskedAfterPieces meaning (meaning p) [] c
 before_any_piece meaning valid determined p c h = record {
   left = λ x b o. (h.left x b o).0;
@@ -200,9 +201,11 @@ module _ {P T R E A S : Type 0} (meaning : P → Meaning ℕ T R E A S) (m : Mea
     all : (take n pieces ++ piece ∷ []) ++ drop (n + 1) pieces ≡ pieces
     all = ap (λ xs. xs ++ drop (n + 1) pieces) next ∙ take-append-drop (n + 1) pieces
 
+    -- goal: pieces-preserved
     pub further_at : Feeds meaning valid c new piece true (Ok answers.More) → AskedAfterPieces meaning m (take (n + 1) pieces) new
     further_at h = subst (λ xs. AskedAfterPieces meaning m xs new) next (asked_after_piece meaning m valid (take n pieces) c far piece new h)
 
+    -- goal: returns-in_default
     pub stops_at : IsReading m.whole → (a : Answer A UnexpectedParse) → a ≢ answers.More → Feeds meaning valid c new piece true (Ok a) → Decided m.whole pieces n a
     stops_at law a d h =
         let s = decided_at_piece meaning m valid (take n pieces) c far piece new law (drop (n + 1) pieces) a d h in
@@ -277,6 +280,7 @@ module _ {P T R E A S : Type 0} (meaning : P → Meaning ℕ T R E A S) (m : Mea
         r
 
     -- the result at the end
+    -- goal: returns
     pub answers_at_end : (r : Result (Answer A UnexpectedParse) SessionError) → EndsSession meaning valid c new [] false r → ParsesPieces m.whole m.heapless pieces r
     answers_at_end (Ok a) h = record { is = record { answer = (decided_after_pieces a h).answer; kind = kind_at_end a h; refused = refused_at_end a h } }
     answers_at_end (Err errors.Memory) h = record { is = tt }

@@ -114,6 +114,7 @@ module _ {P T R A S : Type 0} (fresh : S → Type 0) (meaning : P → Meaning �
     parsed (PeekErr t) h = peeking t.error t.error.0 refl h.is
 
   -- the result of a parser on the unread tokens and the piece, as a session's result
+  -- goal: returns-clause-parses
   pub session_judged : valid old.state → MeansSame (meaning old.parser) (meaning new.parser) → (piece : List T) (more : Bool) (v : View ℕ T) → v ≡ extended piece more old.seen → ((meaning old.parser).lost old.state v → ⊥) → (r : ParseResult A UnexpectedParse) → Answers (over_fed fresh) (meaning old.parser) (run v) r → (n : ℕ) (answer : Result (Answer A UnexpectedParse) Kind) → n ≡ new.seen.position → answer ≡ answer_to (λ e. e.0) new.seen.is_open n r → new.stage ≡ stage_after answer → new.limit ≡ old.limit → session.ParsesPiece meaning valid old new piece more answer
   session_judged is_valid same piece more v e found r h n answer at is stage limit =
       let lost = subst (λ v. (meaning old.parser).lost old.state v → ⊥) e found in
@@ -161,12 +162,14 @@ session_runs stages.Decided u e = absurd (cc)
 session_runs stages.Failed u e = absurd (cc)
 
 module _ {P T R E A S : Type 0} (meaning : P → Meaning ℕ T R E A S) (valid : S → Type 0) (old new : Course P T S) (running : old.stage ≡ stages.Running) where
+  -- goal: returns
   pub answers_end : (parsed : Result (Answer A UnexpectedParse) Kind) (r : Result (Answer A UnexpectedParse) SessionError) → IsSessionResult parsed r → session.ParsesPiece meaning valid old new [] false parsed → session.EndsSession meaning valid old new [] false r
   answers_end parsed r e h = record {
     is = subst (λ s. session.by_stage meaning valid old new [] false (session.ends_session meaning valid old new [] false) s r) (sym running)
         (passed (session.ends_session meaning valid old new [] false) parsed r e (λ a i. subst (session.ParsesPiece meaning valid old new [] false) i h) (λ k i. subst (session.ParsesPiece meaning valid old new [] false) i h));
   }
 
+  -- goal: returns
   pub answers_feed : (piece : List T) → session.fits_session meaning valid old new piece true → (parsed : Result (Answer A UnexpectedParse) Kind) (r : Result (Answer A UnexpectedParse) SessionError) → IsSessionResult parsed r → session.ParsesPiece meaning valid old new piece true parsed → session.Feeds meaning valid old new piece true r
   answers_feed piece fits parsed r e h = record {
     is = subst (λ s. session.by_stage meaning valid old new piece true (session.feeds_session meaning valid old new piece true) s r) (sym running)
@@ -209,6 +212,7 @@ module _ {P T R E A S : Type 0} (meaning : P → Meaning ℕ T R E A S) (valid :
   unless_failed r stages.Decided n h = h
   unless_failed r stages.Failed n h = absurd (n refl)
 
+  -- goal: returns
   pub answers_again : (begun : Course P T S) → session.BeginsSession meaning valid determined old.limit p begun → (old.stage ≡ stages.Failed → ⊥) → (length old.seen.unread < 2 ^ 64) × (admits old.limit (length old.seen.unread) ≡ true) → (parsed : Result (Answer A UnexpectedParse) Kind) (r : Result (Answer A UnexpectedParse) SessionError) → IsSessionResult parsed r → session.ParsesPiece meaning valid begun new old.seen.unread old.seen.is_open parsed → session.BeginsAgain meaning valid determined p old new r
   answers_again begun begins going fits parsed r e h =
       let ends = session.ends_session meaning valid begun new old.seen.unread old.seen.is_open in

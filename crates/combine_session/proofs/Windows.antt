@@ -187,6 +187,7 @@ module _ {P T R E A S : Type 0} (errors : Observers T R P E) (step : P → T →
         judging (CommitErr x) h r = failed x (errors.kind x) h.is (λ i. refused x true i (reasoned_meant h r true x (record { is = (refl, rw (same_mark around m run x h) i) })))
         judging (PeekErr x) h r = let q = peeked (errors.kind x.error) h.is in (q.0, omega arith, refused x.error false q.1 (reasoned_meant h r false x.error (record { is = refl })))
 
+    -- goal: returns
     pub window_judged : (counts_failures : Type 0) (fresh : S → Type 0) (left : S) (more : Bool) (taken : ℕ) (result : Result (Answer A E) Kind) (p : ParsesWindow errors counts_failures step fresh start m s left whole t c more taken result) → IsWindowAnswer counts_failures fresh left more p.new p.failures taken p.place result
     window_judged counts_failures fresh left more taken result p = subst (IsWindowAnswer counts_failures fresh left more p.new p.failures taken p.place) (sym p.is) (judging counts_failures fresh left more p.new p.failures taken p.place p.parsed p.answers p.refuses)
 
@@ -230,6 +231,7 @@ window_left w m r start whole from to more result e h l p =
     )
 
 -- a parsed window
+-- goal: returns-clause-parses
 pub parsed_window : {P T R A S E : Type 0} (errors : Observers T R P E) (counts_failures : Type 0) (step : P → T → P) (fresh : S → Type 0) (start : P) (m : Meaning P T R E A S) (s left : S) (whole : List T) (from to : ℕ) (more : Bool) (taken k : ℕ) (old new : View P T) (f g : Failures) (parsed : ParseResult A E) (result : Result (Answer A E) Kind) → old ≡ window_at step start whole from to more → f ≡ g → IsLaterPlace step start whole from to more new k → taken ≡ k → result ≡ answer_to errors.kind new.is_open taken parsed → Answers (world step errors counts_failures fresh) m (record { first = false; state = s; left = left; old = old; new = new; before = f; after = g }) parsed → ReasonedCall errors m false s old new parsed → ParsesWindow errors counts_failures step fresh start m s left whole from to more taken result
 parsed_window errors counts_failures step fresh start m s left whole from to more taken k old new f g parsed result e i u t j p r =
     record { new = new; failures = g; parsed = parsed; place = let a = u.left in omega arith; is = j ∙ ap (λ b. answer_to errors.kind b taken parsed) u.is_open; answers = rw (← e) (rw i at p); refuses = rw (← e) r }

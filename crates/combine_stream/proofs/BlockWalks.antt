@@ -58,6 +58,7 @@ module _ {T : Type 0} (f : T → Bool → Type 0) where
           passed_rest m (record { count = l.count; longest = subst (λ us. Longest f us l.count) (take-append-drop k ds) (longest_inside (take k ds) (drop k ds) l.count (omega arith) l.longest); place = record { within = omega arith; items = omega arith } })
 
       -- a block that passes as a whole
+      -- goal: walk-preserved
       pub passed_block : (m < k → ⊥) → PassesTest (λ t. 1) f cs (drop k ds) (n + m)
       passed_block i =
           let c = counted (take k ds) m l in

@@ -24,6 +24,7 @@ module _ {P T : Type 0} (b : Bool) where
       by_place (Some c) v h = p.marks c v h
 
   module _ (counts_failures : Type 0) (step : P → T → P) (u v : View P T) (f g : Failures) where
+    -- goal: clause-read
     pub marked_uncons : (r : Result T Kind) → Uncons counts_failures step u v f g r → Uncons counts_failures step (marked b u) (marked b v) f g r
     marked_uncons r h = record { is = by_result r h.is }
       where

@@ -40,6 +40,7 @@ module _ (bytes : List ℕ) (n : ℕ) (u : IsUtf8 bytes) (b : IsCharBoundary byt
   pub text_spelled : (r : List ℕ) → r ≡ take n bytes → text_of r (take text_count (chars bytes))
   text_spelled r e = e ∙ sym (encodes-chars (take n bytes) start) ∙ ap encodes (sym first)
 
+  -- goal: returns-in-Some
   pub text_takes : (ys : List ℕ) → ys ≡ drop n bytes → Takes less_char text_count (text_view bytes) (text_view ys)
   text_takes ys e =
       let p : after_all less_char (text_view bytes).position (take text_count (chars bytes)) ≡ record { 0 = length bytes - n } = left_after len_utf8 (text_view bytes).position (take text_count (chars bytes)) ∙ ap (λ k. record { 0 = length bytes - k }) items in

@@ -20,6 +20,7 @@ chars_before bytes d u e =
     ap (take (index_of bytes d)) (ap chars (sym (take-append-drop d bytes)) ∙ chars-append (take d bytes) (drop d bytes) (IsUtf8-take bytes d u e)) ∙ take_at (chars (take d bytes)) (chars (drop d bytes)) (index_of bytes d) refl
 
 -- the characters between two places
+-- goal: returns-clause-rest
 pub chars_between : (bytes : List ℕ) (c d : ℕ) → IsUtf8 bytes → IsCharBoundary bytes c → IsCharBoundary bytes d → c ≤ d → chars (drop c (take d bytes)) ≡ drop (index_of bytes c) (take (index_of bytes d) (chars bytes))
 chars_between bytes c d u b e l =
     sym (ap (drop (index_of bytes c)) (chars_before bytes d u e ∙ chars_later bytes c d u b l) ∙ drop_at (chars (take c bytes)) (chars (drop c (take d bytes))) (index_of bytes c) refl)
@@ -85,6 +86,7 @@ module _ (bytes rest : List ℕ) (d k : ℕ) (u : IsUtf8 bytes) (w : IsUtf8 rest
   begins =
       sym (take-take (length front) d bytes (let a = place in omega arith)) ∙ ap (take (length front)) split ∙ take_at front rest (length front) refl
 
+  -- goal: returns
   pub place_left : (n : ℕ) → n ≡ d - length rest → (IsUtf8 bytes × IsCharBoundary bytes n) × (n ≤ d) × (index_of bytes n ≡ k)
   place_left n i =
       let j : n ≡ length front = let a = place in omega arith in

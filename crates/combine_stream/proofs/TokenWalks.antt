@@ -18,10 +18,14 @@ module _ {T : Type 0} (size : T → ℕ) (f : T → Bool → Type 0) where
     pub items : size_of size (take count cs) ≡ n
     pub longest : (j : ℕ) → Longest f ds j → Longest f cs (count + j)
 
+  -- goal: loop-token-init
+  -- goal: walk-init
   pub passed_none : (cs : List T) → PassesTest cs cs 0
   passed_none cs = record { count = 0; within = omega arith; tail = refl; items = refl; longest = λ j p. rw (zero-add j) p }
 
   module _ (cs ds : List T) (n : ℕ) (p : PassesTest cs ds n) (t : T) (es : List T) (e : ds ≡ t ∷ es) where
+    -- goal: loop-first-preserved
+    -- goal: loop-token-preserved
     pub passed_more : f t true → PassesTest cs es (n + size t)
     passed_more h =
         let at : drop p.count cs ≡ t ∷ es = sym p.tail ∙ e in
@@ -40,6 +44,7 @@ module _ {T : Type 0} (size : T → ℕ) (f : T → Bool → Type 0) where
               subst (Longest f cs) {x = p.count + suc j} {y = p.count + 1 + j} (omega arith) a;
         }
 
+    -- goal: returns-then-not-call
     pub passed_stop : f t false → LongestItems size f cs n
     passed_stop h = record {
       count = p.count;
@@ -47,6 +52,8 @@ module _ {T : Type 0} (size : T → ℕ) (f : T → Bool → Type 0) where
       place = record { within = p.within; items = p.items };
     }
 
+  -- goal: returns
+  -- goal: returns-in-None
   pub passed_end : (cs ds : List T) (n : ℕ) → PassesTest cs ds n → ds ≡ [] → LongestItems size f cs n
   passed_end cs ds n p e = record {
     count = p.count;

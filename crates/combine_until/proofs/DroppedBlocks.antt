@@ -40,5 +40,6 @@ module _ {P T R E A B V S U Held : Type 0} (step : P → T → P) (errors : Obse
   collected v (Refused k) t = collects v (Refused k) t
   collected v Undecided t = collects v Undecided t
 
+  -- goal: returns
   pub repeat_or_skip : RepeatOrSkip step errors (some_appended held none more heapless) part end
   repeat_or_skip = record { dropped = drops; collected = collected }

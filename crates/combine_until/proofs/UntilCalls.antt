@@ -221,6 +221,7 @@ module _ {P T R A V S E : Type 0} (w : World P T S E) (errors : Observers T R P 
     counts_failures : Quits → (w.counts_failures → r.after ≡ r.before) → w.counts_failures → u.after ≡ u.before
     counts_failures q f s = q.after ∙ f s ∙ z.failures s
 
+    -- goal: clause-answers
     pub until_ends : (marked : View P T → Type 0) (n : Blocks V) → EndsHere w m c r marked b n → marked place → Quits → Answers (around w until_fresh) (until w.step errors c m) u (accepted_as n.committed n.into)
     until_ends marked n p i q = rw p.blocks (by_kind (b.committed || p.committed) accepted)
       where
@@ -244,6 +245,7 @@ module _ {P T R A V S E : Type 0} (w : World P T S E) (errors : Observers T R P 
     refuses : (k : Bool) → Quits → Refuses w m r k → Refuses (around w until_fresh) (until w.step errors c m) u k
     refuses k q y = record { meant = stops_here (Refused k) (Refused k) (Refused k) y.meant refl refl tt; leaves = leaves q y.leaves; failures = counts_failures q y.failures }
 
+    -- goal: clause-answers
     pub until_refused : (t : Tracked E) → Answers w m r (PeekErr t) → Quits → Answers (around w until_fresh) (until w.step errors c m) u (PeekErr t)
     until_refused t p q = record { is = by_kind (w.kind t.error) p.is }
       where
@@ -373,6 +375,7 @@ module _ {P T R A V S E : Type 0} (w : World P T S E) (errors : Observers T R P 
     broken kinds.Lost h x y l = absurd h
 
     -- need of more with its distances kept, or a fault if they couldn't be measured
+    -- goal: clause-answers
     pub until_more : (marked begins stood : View P T → Type 0) (n : Blocks V) (e : E) (given : UntilState V S) (result : ParseResult V E) → BlockNeedsMore w m c r marked b n e → begins u.old → stood place → KeepsBlocks w.counts_failures w.step w.kind begins stood r.new u.new r.after u.after n r.left e given u.left result → given ≡ Begin → r.before.reads ≤ r.after.reads → r.before.resets ≤ r.after.resets → Answers (around w until_fresh) (until w.step errors c m) u result
     until_more marked begins stood n e given result p i j h k x y = by_kept (h.is u.old place z.before (z.beyond + a.count) i j z.there (takes_more w.step z.beyond a.count place r.old r.new z.on a.taken))
       where

@@ -43,6 +43,7 @@ module _ {P T R A S E : Type 0} (errors : Observers T R P E) (m m' : Meaning P T
   stop_back (stop.More n e) w = tt
   stop_back (stop.Failed e) w = λ i. place_into errors m' m h.heapless.0 (λ is. (h.adds is).1) (started m' first from) (started m first from) (started_back first) took_before old new true e (w i)
 
+  -- goal: returns-in-Stops-clause-refuses
   pub stop_alike : {V : Type 0} (why : BlockStop V E) → RefusesTurn errors m' first from took_before old new (steps.Stops why) → stop_says errors m first from took_before old new why
   stop_alike why w = stop_back why w.is
 
@@ -78,12 +79,14 @@ module _ {P T R A V S E : Type 0} (step : P → T → P) (errors : Observers T R
           let here = subst (λ v. blocks_refuse step errors m bs (from_state m k.running) k.blocks.took_before v w j e) there x in
           subst (λ (y : KeptBlocks V S). RefusesUntil step errors m (y.before + y.beyond) (from_state m y.running) y.blocks.took_before old w j e) a (record { enough = enough; blocks = bs; is = here })
 
+    -- goal: turns-init
     pub until_leads_first : (first : Bool) (given : UntilState V S) (k : KeptBlocks V S) (into : V) (b : Bool) → HandsOutBlocks fresh into first given k → b ≡ k.blocks.took_before → (old at now : View P T) → Takes step k.before old at → Takes step k.beyond at now → LeadsTo first given old first k.running b now
     until_leads_first first given k into b a same old at now i j =
         let t = takes_more step k.before k.beyond old at now i j in
         record { refuses = λ bs w c e x. first_leads k into old now t.enough t.rest first given a.is bs w c e (subst (λ d. blocks_refuse step errors m bs (started m first k.running) d now w c e) same x) }
 
     -- past a block
+    -- goal: turns-preserved
     pub until_leads_on : (first : Bool) (given : UntilState V S) (old : View P T) (turn_first : Bool) (running : S) (b : Bool) (now : View P T) → LeadsTo first given old turn_first running b now → (a : A) (n : ℕ) (c : Bool) → begun m turn_first running now (Accepted (Some a) n c) → (c && (b || nat_lt 0 n)) ≡ true → (left : S) → fresh left → (new : View P T) → new ≡ advanced step n now → (d : Bool) → d ≡ false → LeadsTo first given old turn_first left d new
     until_leads_on first given old turn_first running b now z a n c p g left f new there d i = record {
       refuses = λ bs w k e x. z.refuses (record { value = Some a; count = n; committed = c } ∷ bs) w k e (p, ap block_at g, first_into m step errors bs (started m turn_first left) (from_start m) (begins_into m laws turn_first left f) false (advanced step n now) w k e (subst (λ v. blocks_refuse step errors m bs (started m turn_first left) false v w k e) there (subst (λ y. blocks_refuse step errors m bs (started m turn_first left) y new w k e) i x)));
@@ -100,6 +103,7 @@ module _ {V E : Type 0} (kind : E → Kind) (is_open : Bool) (says : Bool → E 
   broken_reasons e kinds.Lost before after i h = absurd h
 
   -- the kept distances could not be skipped
+  -- goal: returns-in-Err-clause-refuses
   pub short_reasons : {P T : Type 0} (counts_failures : Type 0) (step : P → T → P) (old new : View P T) (before after : Failures) (n : ℕ) (j k : Kind) (e : E) → k ≡ losing j → kind e ≡ k → stops_distance counts_failures step old new before after n j → Reasoned {V = V} kind is_open says (CommitErr e)
   short_reasons counts_failures step old new before after n kinds.End k e q i h = reasons_fault kind is_open says e kinds.Lost (i ∙ q) tt
   short_reasons counts_failures step old new before after n kinds.Read k e q i h = reasons_fault kind is_open says e kinds.Read (i ∙ q) tt
@@ -132,6 +136,7 @@ module _ {P T R A V S E : Type 0} (step : P → T → P) (errors : Observers T R
           rw q.answer (reasons_need errors.kind new.is_open says e p.needs.0 mark)
       by_kept (inr q) = rw q.answer (broken_reasons errors.kind new.is_open says q.error (errors.kind q.error) r.after after refl q.broke)
 
+  -- goal: returns-in-Stops-clause-refuses
   pub settled_reasons : (begins stood : View P T → Type 0) (why : BlockStop V E) (none left : UntilState V S) (result : ParseResult V E) → blocks_halted part m c r marked b why → stop_says errors m r.first r.state b.took_before r.old r.new why → SettlesBlocks counts_failures step errors.kind begins stood r.new new r.after after r.left none left result why → (place : View P T) → begins old → stood place → (before beyond : ℕ) → Takes step before old place → Takes step beyond place r.old → Reasoned errors.kind new.is_open says result
   settled_reasons begins stood (stop.Over n) none left result h x s place i j before beyond there on = reasons_accepted errors.kind new.is_open says n.committed n.into result s.is.0
   settled_reasons begins stood (stop.Refused t) none left result h x s place i j before beyond there on =

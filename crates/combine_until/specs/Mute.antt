@@ -12,6 +12,7 @@ module _ {P T R E A S : Type 0} where
   pub mute_means_one : (valid : S → Type 0) (m : Meaning P T R E A S) → MeansOne valid m → MeansOne valid (mute m)
   mute_means_one valid m h = record { whole = h.whole; rest = h.rest }
 
+  -- goal: returns-clause-same
   pub mute_means_same : (m m' : Meaning P T R E A S) → MeansSame m m' → MeansSame (mute m) (mute m')
   mute_means_same m m' h = record { whole = h.whole; rest = h.rest; lost = h.lost; keeps = h.keeps; puts_back = h.puts_back; heapless = h.heapless; adds = λ is. (λ i. i, λ i. i); refuses = h.refuses; refuses_from = h.refuses_from }
 

@@ -342,6 +342,7 @@ loses_into step d l l' i v (Short p) = Short p
 loses_into step d l l' i v (LostWithin p) = LostWithin (i _ p)
 
 module _ {P T R E A V S : Type 0} (step : P → T → P) (errors : Observers T R P E) (c : Collecting (Option A) V) where
+  -- goal: laws
   pub until_is_meaning : (fresh valid : S → Type 0) (m : Meaning P T R E (Option A) S) → IsMeaning fresh valid m → IsMeaning until_fresh (until_valid valid) (until step errors c m)
   until_is_meaning fresh valid m h = record {
     whole = until_is_reading step c m.whole h.whole 0 0 m.whole h.whole (no_blocks c.none);
@@ -355,6 +356,7 @@ module _ {P T R E A V S : Type 0} (step : P → T → P) (errors : Observers T R
       resting Begin d = until_is_reading step c m.whole h.whole 0 0 m.whole h.whole (no_blocks c.none)
       resting (At k) d = until_is_reading step c m.whole h.whole k.before k.beyond (m.rest k.running) (h.rest k.running d) (blocks_so_far c.held k.blocks)
 
+  -- goal: single
   pub until_means_one : (valid : S → Type 0) (m : Meaning P T R E (Option A) S) → TurnsOnce valid is_none m (from_start m) → MeansOne (until_valid valid) (until step errors c m)
   until_means_one valid m h = record { whole = until_is_single step c m.whole h.whole 0 0 m.whole h.whole (no_blocks c.none); rest = resting }
     where
@@ -396,6 +398,7 @@ module _ {P T R E A V S : Type 0} (step : P → T → P) (errors : Observers T R
       refuses_back (j.before + j.beyond) (from_state m' j.running) (from_state m j.running) (record { reads = λ v o. (h.rest j.running v o).1; refuses = λ v w k e. (h.refuses_from j.running v w k e).1 }) j.blocks.took_before v w k e,
     )
 
+    -- goal: returns-clause-same
     pub until_means_same : MeansSame {State = UntilState V S} (until step errors c m) (until step errors c m')
     until_means_same = record {
       whole = rests Begin;

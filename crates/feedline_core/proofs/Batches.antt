@@ -103,6 +103,7 @@ module _ {F P R E S : Type 0} (makes : F → P → Type 0) (meaning : P → Mean
           lines : Appends old after (message_lines messages)
           lines = subst (Appends old after) (sym (message_lines_append w.messages h.batch.messages.items)) (Appends-trans old now after (message_lines w.messages) (message_lines h.batch.messages.items) w.lines h.lines)
 
+          -- goal: pieces-preserved
           pub lines_go_on : e ≡ ends.More → WrittenMessages old after (concatenated (take (n + 1) pieces)) new
           lines_go_on i = record {
             messages = messages;
@@ -112,6 +113,7 @@ module _ {F P R E S : Type 0} (makes : F → P → Type 0) (meaning : P → Mean
           }
 
           -- no further piece is fed, and the last line is written
+          -- goal: returns-in_default
           pub lines_end_at : e ≢ ends.More → (last : Option (List ℕ)) (result : Result Bool Fault) → LastLine (nat_eq new.waiting 0) rest after last result → DecodesInput (made_reading meaning (makes from)) (concatenated pieces) old last result
           lines_end_at i last (Err why) line = record { is = inr line }
           lines_end_at i last (Ok complete) line =

@@ -37,6 +37,7 @@ module _ {T V : Type 0} (r q : Reading ℕ T V) (has : (v : View ℕ T) (o : Out
   messages_as l vs e n m = record { behind = m.behind; divided = divides_as l vs m.behind m.divided; stop = stops_as m.behind e m.stop; refused = m.refused; number = m.number }
 
 -- the lines written for the messages by one reading are those for the messages by the other
+-- goal: returns
 pub decodes_as : (r q : Reading ℕ ℕ (Vec ℕ)) (has : (v : View ℕ ℕ) (o : Outcome (Vec ℕ)) → r v o → q v o) (input : List ℕ) (old new : Option (List ℕ)) (result : Result Bool Fault) → DecodesInput r input old new result → DecodesInput q input old new result
 decodes_as r q has input old new (Ok complete) h =
     let p : PrintsMessages r input h.is.0 complete = h.is.1 in

@@ -93,6 +93,7 @@ module _ {S : Type 0} (r : Reading ℕ ℕ Message) (kept : S → Reading ℕ �
     }
 
   -- the lines of the pieces are lines of the input
+  -- goal: returns
   pub runs_on_input : (old new : Option (List ℕ)) (result : Result Bool Fault) → RunsPieces r kept limit pieces old new result → RunsOnInput r kept limit sizes input old new result
   runs_on_input old new (Ok accepted) h = record { is = (h.is.0, prints_on h.is.0 accepted h.is.1, h.is.2) }
   runs_on_input old new (Err why) h = record { is = h.is }

@@ -104,6 +104,7 @@ module _ {S : Type 0} (r : Reading ℕ ℕ Message) (kept : S → Reading ℕ �
       }
 
   -- in a loop over the pieces, after the first n were fed
+  -- goal: pieces-preserved
   pub one_more_at : (old now new : Option (List ℕ)) (pieces : List (List ℕ)) (n last : ℕ) → WrittenPieces old now (take n pieces) last → (piece : List ℕ) → n < length pieces → get_or pieces n piece ≡ piece → (u : ℕ) → u ≤ last + length piece → admits limit (last + length piece) ≡ true → LeavesBytes r kept (concatenated (take (n + 1) pieces)) u → Appends now new (more_line u) → WrittenPieces old new (take (n + 1) pieces) u
   one_more_at old now new pieces n last w piece within at u k f l a =
       let next : take n pieces ++ piece ∷ [] ≡ take (n + 1) pieces = ap (λ x. take n pieces ++ x ∷ []) (sym at) ∙ sym (take_more pieces n piece within) in
@@ -158,6 +159,8 @@ module _ {S : Type 0} (r : Reading ℕ ℕ Message) (kept : S → Reading ℕ �
     asked : AsksAfterFirst r pieces n → AsksAfterFirst r pieces (length w.unread)
     asked h = subst (AsksAfterFirst r pieces) (sym count) h
 
+    -- goal: returns
+    -- goal: returns-in_default
     pub lines_decided : (a : Answer Message UnexpectedParse) → Decided r pieces n a → (result : Result Bool Fault) → wrote a result → RunsPieces r kept limit pieces old new result
     lines_decided a d (Err why) h = record { is = inr (inl h) }
     lines_decided answers.More d (Ok accepted) h = absurd d.answer

@@ -33,6 +33,7 @@ module _ {P T R E A S : Type 0} (meaning : P → Meaning ℕ T R E A S) (valid :
         omega (arith, length-drop l.count (old.seen.unread ++ piece), length-append old.seen.unread piece)
 
 -- where all pieces have room, the next one has
+-- goal: feed-requires-clause-fits
 pub has_room : {P T R E A S : Type 0} (meaning : P → Meaning ℕ T R E A S) (m : Meaning ℕ T R E A S) (valid : S → Type 0) (pieces : List (List T)) (n : ℕ) (c : Course P T S) → AskedAfterPieces meaning m (take n pieces) c → (piece : List T) → n < length pieces → get_or pieces n piece ≡ piece → length (concatenated pieces) < 2 ^ 64 → c.seen.position + length c.seen.unread + length piece < 2 ^ 64
 has_room meaning m valid pieces n c far piece within at fits =
     let most = no_longer meaning m valid pieces n c far piece within at c in

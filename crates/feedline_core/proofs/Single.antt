@@ -42,5 +42,6 @@ delete_is_single = (mapped_means_one _ _ (λ parts m. m ≡ Delete parts.1) (thr
 set_is_single : IsSingle set.whole
 set_is_single = (mapped_means_one _ _ (λ parts m. m ≡ Set parts.0 parts.2) (four_one (bytes_one _) (byte_one _) (bytes_one _) (byte_one _))).whole
 
+-- goal: returns
 pub message_is_single : IsSingle message.whole
 message_is_single = either_is_single delete.whole (OrElse set.whole refused) delete_is_single (either_is_single set.whole refused set_is_single refused_is_single)

@@ -16,6 +16,7 @@ hexadecimal_append (b ∷ bs) cs = ap (λ l. hexadecimal_digit (b / 16) ∷ hexa
 
 -- in a loop over the parts to write, after the first n were written
 module _ (old now new : Option (List ℕ)) (n : ℕ) where
+  -- goal: messages-preserved
   pub message_more : (ms : List (Vec ℕ)) (m : Vec ℕ) → n < length ms → get_or ms n m ≡ m → Appends old now (message_lines (take n ms)) → Appends now new (message_line m.items) → Appends old new (message_lines (take (n + 1) ms))
   message_more ms m within at written line =
       let one : message_lines (take (n + 1) ms) ≡ message_lines (take n ms) ++ message_line m.items = ap message_lines (take_more ms n m within ∙ ap (λ x. take n ms ++ x ∷ []) at) ∙ message_lines_append (take n ms) (m ∷ []) ∙ ap (λ l. message_lines (take n ms) ++ l) (append-nil (message_line m.items)) in

@@ -38,6 +38,7 @@ module _ {P T R A S E : Type 0} (w : World P T S E) (m : Meaning P T R E A S) (r
       by_kind kinds.Reset i q = q.1
       by_kind kinds.Lost i q = losing r.first q
 
+  -- goal: clause-answers
   pub need_of_more : (e : E) → w.kind e ≡ kinds.End → r.old.is_open ≡ true → Answers w m r (CommitErr e) → Asks w m r
   need_of_more e i j p = by_mark r.old.is_open j (subst (λ (k : Kind). fails w m r k) i p.is)
     where
@@ -46,6 +47,7 @@ module _ {P T R A S E : Type 0} (w : World P T S E) (m : Meaning P T R E A S) (r
       by_mark false j q = absurd (cc)
 
   -- a call doesn't change whether the list is open
+  -- goal: returns-then-needs_more-clause-refuses
   pub same_mark : (e : E) → Answers w m r (CommitErr e) → r.new.is_open ≡ r.old.is_open
   same_mark e p = by_kind (w.kind e) p.is
     where
@@ -70,6 +72,7 @@ module _ {P T R A S E : Type 0} (w : World P T S E) (m : Meaning P T R E A S) (r
 
 module _ {P T R A S E : Type 0} (w : World P T S E) (m : Meaning P T R E A S) (r : CallRecord P T S) where
   -- an error that isn't need of more
+  -- goal: clause-answers
   pub left_settled : (e : E) → ((w.kind e ≡ kinds.End) × (r.new.is_open ≡ true) → ⊥) → Answers w m r (CommitErr e) → Leaves w r
   left_settled e q p = left_by w m r e (λ i j. q (i, same_mark w m r e p ∙ j)) p
 
@@ -88,6 +91,7 @@ module _ {P T R A B S S' E : Type 0} (w : World P T S E) (fresh : S' → Type 0)
     pub resets : r.before.resets < r.after.resets → u.before.resets < u.after.resets
     pub loses : loses w m r r.first → loses (around w fresh) m' u u.first
 
+  -- goal: clause-answers
   pub settles : (e : E) → ((w.kind e ≡ kinds.End) × (r.new.is_open ≡ true) → ⊥) → Answers w m r (CommitErr e) → Settles → Answers (around w fresh) m' u (CommitErr e)
   settles e q p z = record { is = by_kind (w.kind e) refl p.is }
     where
@@ -103,6 +107,7 @@ module _ {P T R A B S S' E : Type 0} (w : World P T S E) (fresh : S' → Type 0)
       by_kind kinds.Reset o y = (z.resets y.0, z.leaves y.1)
       by_kind kinds.Lost o y = z.loses y
 
+  -- goal: clause-answers
   pub needs : (e : E) → (w.kind e ≡ kinds.End) × (r.new.is_open ≡ true) → Answers w m r (CommitErr e) → r.old.is_open ≡ u.old.is_open → (Asks w m r → Asks (around w fresh) m' u) → Answers (around w fresh) m' u (CommitErr e)
   needs e q p i z =
       let o = sym (same_mark w m r e p) ∙ q.1 in
@@ -115,11 +120,13 @@ module _ {P T R A B S S' E : Type 0} (w : World P T S E) (fresh : S' → Type 0)
 
 module _ {P T R A S E : Type 0} (w : World P T S E) (m : Meaning P T R E A S) (u : CallRecord P T S) where
   -- the stream could not be put back
+  -- goal: clause-answers
   pub unreset : (e : E) → w.kind e ≡ kinds.Reset → Leaves w u → u.before.resets < u.after.resets → Answers w m u (CommitErr e)
   unreset e i l h = record { is = rw i (h, l) }
 
 module _ {P T R A B S S' E : Type 0} (w : World P T S E) (fresh : S' → Type 0) (m : Meaning P T R E A S) (m' : Meaning P T R E B S') (r : CallRecord P T S) (u : CallRecord P T S') where
   -- the stream could not be put back to the start of a refusal, and an end of its unread tokens is left
+  -- goal: returns-clause-answers
   pub refusal_unreset : (t : Tracked E) → Answers w m r (PeekErr t) → (k : Kind) → (k ≡ kinds.Reset) × Moves w.step r.new u.new × (r.after.resets < u.after.resets) → r.before.resets ≤ r.after.resets → u.old ≡ r.old → u.before ≡ r.before → (w.fresh r.left → fresh u.left) → (e : E) → w.kind e ≡ k → Answers (around w fresh) m' u (CommitErr e)
   refusal_unreset t p k h x i j f e q =
       let y = (peeked_refusal w m r (w.kind t.error) p.is).leaves in

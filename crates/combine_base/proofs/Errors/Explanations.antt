@@ -26,6 +26,7 @@ module _ {P T R V S E : Type 0} (s : Observers T R P E) (m m' : Meaning P T R E 
   as_before : AddsItems s m'.heapless (AtToken m'.adds old.unread) e own → AddsItems s m.heapless (AtToken m.adds old.unread) e own
   as_before = says_into s m'.heapless m.heapless (AtToken m'.adds old.unread) (AtToken m.adds old.unread) e own h.heapless.0 (λ is. at_token_into m'.adds m.adds (λ js. (h.adds js).1) old.unread is)
 
+  -- goal: returns-in-Ok-clause-explained
   pub explained_by : refuses old left false e → (result : ParseResult V E) → new ≡ old → AddsItems s m'.heapless (AtToken m'.adds old.unread) e own → Peeked s.kind own result → Explained s m refuses old new result
   explained_by w (CommitOk v) b a p = absurd p.is
   explained_by w (PeekOk v) b a p = absurd p.is
@@ -34,9 +35,12 @@ module _ {P T R V S E : Type 0} (s : Observers T R P E) (m m' : Meaning P T R E 
 
 -- the error of a refusal, by the kind of result
 module _ {V E : Type 0} (kind : E → Kind) (is_open : Bool) (refuses : Bool → E → Type 0) where
+  -- goal: clause-refuses
   pub reason_committed : (e : E) → Reasoned {V = V} kind is_open refuses (CommitErr e) → IsRefusal is_open (kind e) → refuses true e
   reason_committed e h i = h true e (record { is = (refl, i) })
 
+  -- goal: returns-in-Ok-clause-explained
+  -- goal: returns-in-PeekErr-clause-refuses
   pub reason_peeked : (t : Tracked E) → Reasoned {V = V} kind is_open refuses (PeekErr t) → refuses false t.error
   reason_peeked t h = h false t.error (record { is = refl })
 
@@ -52,6 +56,7 @@ module _ {P T R V S E : Type 0} (w : World P T S E) (m : Meaning P T R E V S) (r
   abbrev then : CallRecord P T S
   then = record { first = r.first; state = r.state; left = r.left; old = r.old; new = new; before = r.before; after = after }
 
+  -- goal: returns-in-Err-clause-answers
   pub unexplained : (t : Tracked E) (k : Kind) (e : E) → Answers w m r (PeekErr t) → Broke k r.after after → Moves w.step r.new new ⊎ Moves w.step r.old new → r.before.reads ≤ r.after.reads → r.before.resets ≤ r.after.resets → w.kind e ≡ k → Answers w m then (CommitErr e)
   unexplained t k e p b q x y i = record { is = rw i (by_kind k b) }
     where
@@ -89,6 +94,7 @@ module _ {P T R V S E : Type 0} (step : P → T → P) (s : Observers T R P E) (
   peeks_back kinds.Reset p = p
   peeks_back kinds.Lost p = p
 
+  -- goal: returns-in-Ok-clause-answers
   pub explained_answers : (t : Tracked E) (own : E) (heapless : Type 0) (adds : List (ErrorItem T R) → Type 0) → (m.heapless → heapless) → Answers explained_world m r (PeekErr t) → AddsItems s heapless adds t.error own → (result : ParseResult V E) → Peeked s.kind own result → Answers explained_world m explained_run result
   explained_answers t own heapless adds g p a (CommitOk v) q = absurd q.is
   explained_answers t own heapless adds g p a (PeekOk v) q = absurd q.is

@@ -56,12 +56,21 @@ module _ {P T R V S E : Type 0} {fresh valid : S → Type 0} {m : Meaning P T R 
   reasons_in_mode true given s d v w k e x = (h.reasons s (d.afresh refl) v w k e).0 x
   reasons_in_mode false given s d v w k e x = subst (λ y. m.refuses_from y v w k e) (d.kept refl) x
 
+  -- goal: returns-clause-ran
+  -- goal: returns-in-CommitErr-clause-ran
+  -- goal: returns-in-CommitOk-clause-ran
   pub reasoned_at_rest : (errors : Observers T R P E) {first : Bool} {s : S} → (first ≡ true → fresh s) → {old new : View P T} {result : ParseResult V E} → ReasonedCall errors m first s old new result → ReasonedCall errors m false s old new result
   reasoned_at_rest errors {first} {s} d {old} {new} r = reasoned_into (reasons_at_rest first s d old new) r
 
+  -- goal: returns-clause-refuses
+  -- goal: returns-in-Kept-clause-refuses
+  -- goal: returns-in-CommitErr-clause-refuses
   pub reasoned_in_mode : (errors : Observers T R P E) {first : Bool} {given s : S} → RunsFrom fresh first given s → {old new : View P T} {result : ParseResult V E} → ReasonedCall errors m false s old new result → ReasonedCall errors m first given old new result
   reasoned_in_mode errors {first} {given} {s} d {old} {new} r = reasoned_into (reasons_in_mode first given s d old new) r
 
+  -- goal: returns-in-PeekErr
+  -- goal: returns-then-needs_more
+  -- goal: returns-else-needs_more
   pub explained_at_rest : {errors : Observers T R P E} {first : Bool} {s : S} → (first ≡ true → fresh s) → {old new : View P T} {result : ParseResult V E} → Explained errors m (begun_refuses m first s) old new result → Explained errors m (m.refuses_from s) old new result
   explained_at_rest {errors} {first} {s} d {old} {new} {result} x = by_case result x
     where
@@ -88,6 +97,8 @@ module _ {P T R V S E : Type 0} {w : World P T S E} {m : Meaning P T R E V S} {r
       by_kind kinds.Reset q i = absurd i
       by_kind kinds.Lost q i = absurd i
 
+  -- goal: returns-in-CommitErr-clause-refuses
+  -- goal: returns-in-PeekErr-clause-refuses
   pub refusal_is_meant : (y : ParseResult V E) → Answers w m r y → (k : Bool) (e : E) → refused_with w.kind r.new.is_open y k e → begun m r.first r.state r.old (Refused k)
   refusal_is_meant (CommitOk v) p k e i = absurd i
   refusal_is_meant (PeekOk v) p k e i = absurd i
@@ -97,13 +108,18 @@ module _ {P T R V S E : Type 0} {w : World P T S E} {m : Meaning P T R E V S} {r
   refusal_is_meant (PeekErr t) p false e i = (peeked_refusal w m r (w.kind t.error) p.is).meant
 
 -- a refusal of a call is a meant one with an error that its parser may have
+-- goal: returns-in-CommitErr
+-- goal: returns-in-CommitErr-clause-refuses
+-- goal: returns-in-PeekErr-clause-refuses
 pub reasoned_meant : {P T R V S E : Type 0} {w : World P T S E} {m : Meaning P T R E V S} {r : CallRecord P T S} {y : ParseResult V E} → Answers w m r y → Reasoned w.kind r.new.is_open (begun_refuses m r.first r.state r.old r.new) y → Reasoned w.kind r.new.is_open (MeantRefusal (begun m r.first r.state) (begun_refuses m r.first r.state) r.old r.new) y
 reasoned_meant {y = y} p r k e i = record { meant = refusal_is_meant y p k e i.is; error = r k e i }
 
 -- so is one that was put back and explained
+-- goal: returns-in-PeekErr-clause-refuses
 pub refusal_meant : {P T R V S E : Type 0} {errors : Observers T R P E} {m : Meaning P T R E V S} {r : Reading P T V} {own : Refusing P T E} {old new : View P T} {e : E} → r old (Refused false) → ExplainsRefusal errors m own old new e → ExplainsRefusal errors m (MeantRefusal r own) old new e
 refusal_meant p x = record { own = x.own; left = x.left; refused = record { meant = p; error = x.refused }; back = x.back; says = x.says }
 
+-- goal: clause-explained
 pub explained_meant : {P T R V S E : Type 0} {step : P → T → P} {errors : Observers T R P E} {counts_failures : Type 0} {fresh : S → Type 0} {m : Meaning P T R E V S} {s left : S} {old new : View P T} {f0 f1 : Failures} {y : ParseResult V E} → Answers (world step errors counts_failures fresh) m (call_from s left old new f0 f1) y → Explained errors m (m.refuses_from s) old new y → Explained errors m (refusals_from m s) old new y
 explained_meant {y = CommitOk v} p x = record { is = tt }
 explained_meant {y = PeekOk v} p x = record { is = tt }
@@ -125,6 +141,7 @@ module _ {P T R B C U E : Type 0} (errors : Observers T R P E) (m : Meaning P T 
 
 module _ {P T R B C S L U Z E : Type 0} {step : P → T → P} {errors : Observers T R P E} {counts_failures : Type 0} {last_fresh valid : U → Type 0} {fresh : Z → Type 0} {place : Z → SequencePlace S L} {m : Meaning P T R E B U} {c : Bool} {f : B → C} {kept : U → L} {left : Z} {old new : View P T} {f0 f1 : Failures} where
   -- the errors of a last part that has run
+  -- goal: clause-refuses
   pub runs_reasons : {s : U} {y : ParseResult C E} → RunsLastPart (world step errors counts_failures last_fresh) errors valid fresh place m c f kept left old new f0 f1 y s → Reasoned errors.kind new.is_open (RefusesLast errors m (refusals_from m s) c old new) y
   runs_reasons {s} g k e i = by_answer errors m (refusals_from m s) f old new c g.answer (explained_meant g.answers g.explained) k e (subst (λ x. refused_with errors.kind new.is_open x k e) g.is i.is)
 
@@ -140,6 +157,7 @@ module _ {P T R A B C S U Z E : Type 0} (step : P → T → P) (errors : Observe
   reasoned z = ReasonedCall errors (followed step errors place f m n) false z
 
   -- a call that begins in the last part
+  -- goal: clause-refuses
   pub last_reasons : (z left : Z) (l : SequenceState A U) (old new : View P T) (f0 f1 : Failures) (y : ParseResult C E) → place z ≡ Last l → RunsLastPart part_world errors last_valid (begins_sequence place fresh) place n l.committed (f l.value) (λ s. record { value = l.value; committed = l.committed; state = s }) left old new f0 f1 y l.state → reasoned z old new y
   last_reasons z left l old new f0 f1 y e g k x i = subst (λ p. at_place p old new k x) (sym e) (runs_reasons g k x i)
 
@@ -158,6 +176,7 @@ module _ {P T R A B C S U Z E : Type 0} (step : P → T → P) (errors : Observe
         let j = subst (λ y. RefusedWith errors.kind mid.is_open y b x) g.answer (subst (λ u. RefusedWith errors.kind u.is_open y b x) g.view i) in
         subst (λ q. at_place q old new b x) (sym e) (inl (subst (λ u. refusals_from m s old u b x) (sym g.view) (r b x j)))
 
+    -- goal: clause-refuses
     pub sequence_reasons : (x : ParseResult A E) → Answers before m (call_from s stopped old mid f0 f1) x → ReasonedCall errors m false s old mid x → ContinuesSequence part_world errors last_valid (begins_sequence place fresh) place f n stopped left mid new f1 f2 y x → reasoned z old new y
     sequence_reasons x p r g = by_case x p r g.is
       where

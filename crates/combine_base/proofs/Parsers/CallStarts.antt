@@ -14,6 +14,7 @@ use Rattle.combine_base.specs.declared.error.result.ParseResult.{ParseResult}
 use Rattle.combine_base.specs.declared.error.result.ParseResult.TheVariants.{CommitOk, PeekOk, CommitErr, PeekErr}
 
 -- an error is need of more, or it isn't
+-- goal: clause-answers
 pub need_or_not : (k : Kind) (b : Bool) → ((k ≡ kinds.End) × (b ≡ true)) ⊎ ((k ≡ kinds.End) × (b ≡ true) → ⊥)
 need_or_not kinds.Refused b = inr (λ q. let e = q.0 in cc)
 need_or_not kinds.End true = inl (refl, refl)
@@ -33,6 +34,7 @@ module _ {P T V S E : Type 0} (w : World P T S E) where
     failures = p.failures;
   }
 
+  -- goal: clause-answers
   abbrev pub progress_here : (a b : Reading P T V) (v : View P T) (f : Failures) → ((v : View P T) (o : Outcome V) → b v o → a v o) → Progress w a b v v f f
   progress_here a b v f h =
       let r = resumes_none a v in
@@ -80,9 +82,15 @@ module _ {P T R V S E : Type 0} (w : World P T S E) (valid : S → Type 0) (m : 
   lost_from false given s k v l = (refl, subst (λ x. m.lost x v) (k.kept refl) l)
 
   -- the result of a call from a state, whatever the mode
+  -- goal: returns-in-PeekErr
+  -- goal: returns-then-needs_more
+  -- goal: returns
   pub at_rest : (r : CallRecord P T S) → (r.first ≡ true → w.fresh r.state) → (x : ParseResult V E) → Answers w m r x → Answers w m (call_from r.state r.left r.old r.new r.before r.after) x
   at_rest r d x a = becomes w m r false r.state r.old r.before (progress_here w (m.rest r.state) (begun m r.first r.state) r.old r.before (to_rest r.first r.state d)) (λ k. refl) (omega arith) (omega arith) (λ e l. (refl, l)) x a
 
   -- and its result in its mode, from the state that it got
+  -- goal: returns-clause-answers
+  -- goal: returns-in-Kept-clause-answers
+  -- goal: returns-in-CommitErr-clause-answers
   pub in_mode : (first : Bool) (given s left : S) → RunsFrom w.fresh first given s → (old new : View P T) (before after : Failures) (x : ParseResult V E) → Answers w m (call_from s left old new before after) x → Answers w m (record { first = first; state = given; left = left; old = old; new = new; before = before; after = after }) x
   in_mode first given s left k old new before after x a = becomes w m (call_from s left old new before after) first given old before (progress_here w (begun m first given) (m.rest s) old before (from_rest first given s k)) (λ k. refl) (omega arith) (omega arith) (λ e l. lost_from first given s k old l) x a

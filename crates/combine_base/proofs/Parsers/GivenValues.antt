@@ -13,9 +13,15 @@ module _ {Position Token Range Error Value State : Type 0} (valid : State → Ty
   begun_good h false s k v a n c p = (h.rest s k).one v a n c p
 
   module _ {E : Type 0} (w : World Position Token State E) (r : CallRecord Position Token State) (a : Value) where
+    -- goal: ask-value-requires
+    -- goal: call-requires
+    -- goal: change-requires
     pub good_ok : GivesOnly valid m good → valid r.state → Answers w m r (CommitOk a) → good a
     good_ok h k x = begun_good h r.first r.state k r.old a x.is.count true x.is.meant
 
+    -- goal: ask-value-requires
+    -- goal: call-requires-in-PeekOk
+    -- goal: change-requires-in-PeekOk
     pub good_peek_ok : GivesOnly valid m good → valid r.state → Answers w m r (PeekOk a) → good a
     good_peek_ok h k x = begun_good h r.first r.state k r.old a x.is.count false x.is.meant
 

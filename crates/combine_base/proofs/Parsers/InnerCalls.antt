@@ -71,10 +71,12 @@ module _ {P T R A B S S' E : Type 0} {w : World P T S E} {fresh : S' → Type 0}
           losing false true i j y = absurd (let x = (z.lost i y.0).0 in cc)
           losing false false i j y = ((z.lost i y.0).1, leaves y.1)
 
+      -- goal: clause-answers
       pub inside_fails : (e : E) → ((w.kind e ≡ kinds.End) × (r.new.is_open ≡ true) → ⊥) → Answers w m r (CommitErr e) → Answers (around w fresh) m' outside (CommitErr e)
       inside_fails e i p = settles w fresh m m' r outside e i p settling
 
       -- a peeked refusal is committed if something was before
+      -- goal: clause-answers
       pub inside_refuses : (t : Tracked E) → Answers w m r (PeekErr t) → Answers (around w fresh) m' outside (refused_as c t)
       inside_refuses t p = record { is = by_commitment c refl }
         where
@@ -112,9 +114,11 @@ module _ {P T R A B S S' E : Type 0} {w : World P T S E} {fresh : S' → Type 0}
           failures = λ s. p.failures s ∙ z.progress.failures s;
         }
 
+        -- goal: clause-answers
         pub inside_commits : (a : A) → Answers w m r (CommitOk a) → Answers (around w fresh) m' outside (CommitOk (f a))
         inside_commits a p = record { is = subst (Accepts (around w fresh) m' outside (f a)) (or_true c) (accepts a true p.is) }
 
+        -- goal: clause-answers
         pub inside_peeks : (a : A) → Answers w m r (PeekOk a) → Answers (around w fresh) m' outside (accepted_as c (f a))
         inside_peeks a p = record { is = by_commitment c refl }
           where
@@ -146,5 +150,6 @@ module _ {P T R A B S S' E : Type 0} {w : World P T S E} {fresh : S' → Type 0}
         failures = λ s. p.failures s ∙ z.progress.failures s;
       }
 
+      -- goal: clause-answers
       pub inside_asks : (e : E) → (w.kind e ≡ kinds.End) × (r.new.is_open ≡ true) → Answers w m r (CommitErr e) → Answers (around w fresh) m' outside (CommitErr e)
       inside_asks e i p = needs w fresh m m' r outside e i p same_open asks

@@ -11,9 +11,15 @@ use Rattle.combine_base.specs.declared.stream.Failures.{Failures}
 use Rattle.combine_base.specs.declared.error.result.ParseResult.{ParseResult}
 use Rattle.combine_base.specs.declared.error.result.ParseResult.TheVariants.{CommitOk, PeekOk, CommitErr, PeekErr}
 
+-- goal: items-init
+-- goal: loop-range-init
+-- goal: returns-in-Stops-clause-answers
 pub passes_none : {C V : Type 0} (a : C → V → Type 0) (f : Failures) → Passes a a f f
 passes_none a f = record { marks = λ c v p. p; reads = omega arith; resets = omega arith }
 
+-- goal: items-preserved
+-- goal: returns-in-Err
+-- goal: returns-in-Err-clause-passes
 pub passes_more : {C V : Type 0} {a b d : C → V → Type 0} {f g h : Failures} → Passes a b f g → Passes b d g h → Passes a d f h
 passes_more p q = record {
   marks = λ c v i. q.marks c v (p.marks c v i);
@@ -22,9 +28,15 @@ passes_more p q = record {
 }
 
 module _ {P T R E A S : Type 0} where
+  -- goal: returns-clause-same
+  -- goal: returns
+  -- goal: returns-in-Err-clause-same
   pub same_none : (m : Meaning P T R E A S) → MeansSame m m
   same_none m = record { whole = λ v o. (λ p. p, λ p. p); rest = λ s v o. (λ p. p, λ p. p); lost = λ s v. (λ p. p, λ p. p); keeps = (λ p. p, λ p. p); puts_back = (λ p. p, λ p. p); heapless = (λ p. p, λ p. p); adds = λ is. (λ p. p, λ p. p); refuses = λ v w i e. (λ p. p, λ p. p); refuses_from = λ s v w i e. (λ p. p, λ p. p) }
 
+  -- goal: loop-cut-preserved
+  -- goal: returns-in-Err-clause-same
+  -- goal: returns-in-Ok-clause-same
   pub same_more : (a b c : Meaning P T R E A S) → MeansSame a b → MeansSame b c → MeansSame a c
   same_more a b c h k = record {
     whole = λ v o. (λ p. (k.whole v o).0 ((h.whole v o).0 p), λ p. (h.whole v o).1 ((k.whole v o).1 p));
@@ -89,6 +101,7 @@ module _ {P T R A S E : Type 0} (w : World P T S E) (m m' : Meaning P T R E A S)
   peeking kinds.Reset p = p
   peeking kinds.Lost p = p
 
+  -- goal: returns-clause-answers
   pub answers_alike : (result : ParseResult A E) → Answers w m' r result → Answers w m r result
   answers_alike (CommitOk a) p = record { is = accepts a true p.is }
   answers_alike (PeekOk a) p = record { is = accepts a false p.is }
@@ -96,5 +109,6 @@ module _ {P T R A S E : Type 0} (w : World P T S E) (m m' : Meaning P T R E A S)
   answers_alike (PeekErr e) p = record { is = peeking (w.kind e.error) p.is }
 
 module _ {P T R A S E : Type 0} (w : World P T S E) (m m' : Meaning P T R E A S) (h : MeansSame m m') (r : CallRecord P T S) where
+  -- goal: clause-answers
   pub answers_same : (result : ParseResult A E) → Answers w m' r result → Answers w m r result
   answers_same = answers_alike w m m' (record { whole = h.whole; rest = h.rest; lost = h.lost; keeps = h.keeps; puts_back = h.puts_back; heapless = h.heapless }) r

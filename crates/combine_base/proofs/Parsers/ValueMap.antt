@@ -66,6 +66,7 @@ module _ {P T R A B S E : Type 0} (w : World P T S E) (m : Meaning P T R E A S) 
     failing kinds.Reset h = h
     failing kinds.Lost h = losing r.first h
 
+    -- goal: returns-in-CommitErr-clause-answers
     pub mapped_err : (e : E) → Answers w m r (CommitErr e) → Answers w (mapped m f) r (CommitErr e)
     mapped_err e h = record { is = failing (w.kind e) h.is }
 
@@ -77,11 +78,14 @@ module _ {P T R A B S E : Type 0} (w : World P T S E) (m : Meaning P T R E A S) 
     peeking kinds.Reset h = h
     peeking kinds.Lost h = h
 
+    -- goal: returns-in-PeekErr-clause-answers
     pub mapped_peek_err : (e : Tracked E) → Answers w m r (PeekErr e) → Answers w (mapped m f) r (PeekErr e)
     mapped_peek_err e h = record { is = peeking (w.kind e.error) h.is }
 
+    -- goal: returns-in-CommitOk-clause-answers
     pub mapped_ok : (a : A) (b : B) → f a b → Answers w m r (CommitOk a) → Answers w (mapped m f) r (CommitOk b)
     mapped_ok a b i h = record { is = accepts r a b true i h.is }
 
+    -- goal: returns-in-PeekOk-clause-answers
     pub mapped_peek_ok : (a : A) (b : B) → f a b → Answers w m r (PeekOk a) → Answers w (mapped m f) r (PeekOk b)
     mapped_peek_ok a b i h = record { is = accepts r a b false i h.is }

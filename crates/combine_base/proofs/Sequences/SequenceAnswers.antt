@@ -153,6 +153,7 @@ module _ {P T R A B C S U Z E : Type 0} (step : P → T → P) (errors : Observe
   after_values a c s = record { value = a; committed = c; state = s }
 
   -- a call that begins in the last part
+  -- goal: clause-answers
   pub last_answers : (z left : Z) (l : SequenceState A U) (old new : View P T) (f0 f1 : Failures) (y : ParseResult C E) → place z ≡ Last l → RunsLastPart part_world errors last_valid (begins_sequence place fresh) place n l.committed (f l.value) (after_values l.value l.committed) left old new f0 f1 y l.state → Answers all_world all (call_from z left old new f0 f1) y
   last_answers z left l old new f0 f1 y e g =
       let p = progress_here part_world (all.rest z) (following l.committed (f l.value) (n.rest l.state)) old f0 (λ v o x. subst (λ p. rest_at step place m (independent errors f n) p v o) (sym e) x) in
@@ -172,6 +173,7 @@ module _ {P T R A B C S U Z E : Type 0} (step : P → T → P) (errors : Observe
     ends_there : (x : ParseResult C E) (d : Type 0) → Answers all_world all (call_from z left old mid f0 f1) x → StopsBeforeLast part_world errors last_valid (begins_sequence place fresh) place f n stopped left mid new f1 f2 y x d → Answers all_world all (call_from z left old new f0 f2) y
     ends_there x d a g = rw (g.answer, g.view, g.failures) a
 
+    -- goal: clause-answers
     pub sequence_answers : (x : ParseResult A E) → valid_in place valid last_valid z → Answers before m (call_from s stopped old mid f0 f1) x → ContinuesSequence part_world errors last_valid (begins_sequence place fresh) place f n stopped left mid new f1 f2 y x → Answers all_world all (call_from z left old new f0 f2) y
     sequence_answers x i a g = by_case x a g.is
       where

@@ -44,6 +44,9 @@ module _ {P T R A B C S U Z E : Type 0} {w : World P T U E} {errors : Observers 
 module _ {Last Input Checkpoint T R P E A B C S U Z : Type 0} (place : Z → SequencePlace S (SequenceState A U)) (f : A → B → C) where
   module _ {i : stream.Ghosts Input T R P E} {observers : Observers T R P E} {fresh : S → Type 0} {last_fresh : U → Type 0} {q : parser.Ghosts Last Input U B Checkpoint T R P E} {last last' : Last} {input left : Input} {from given state : Z} (begun : begins_sequence place fresh given) {result : ParseResult C E} where
     -- a call that begins in the last part
+    -- goal: returns-in-Last-clause-follows
+    -- goal: returns-in-Last
+    -- goal: returns-in-Last-clause-called
     pub last_called : {valid : S → Type 0} (m : Meaning P T R E A S) → ((s : S) → fresh s → valid s) → {at : SequenceState A U} → place from ≡ places.Last at → CalledLast q i observers last_fresh (λ z. z ≡ given) place f last last' input left at state result → FollowsParts place f i observers fresh valid q m m last last' input left from state result
     last_called m starts {at} e l =
         let runs = runs_begun begun l.runs in
@@ -56,6 +59,9 @@ module _ {Last Input Checkpoint T R P E A B C S U Z : Type 0} (place : Z → Seq
         }
 
     -- and one that begins in the parts before it, which have such a result
+    -- goal: returns-in-Before-clause-follows
+    -- goal: returns-in-Before
+    -- goal: returns-in-Before-clause-called
     pub sequence_called : {valid : S → Type 0} {m m' : Meaning P T R E A S} {mid : Input} {s kept : S} {answer : ParseResult A E} → ((s : S) → fresh s → valid s) → IsMeaning fresh valid m → IsMeaning last_fresh q.valid (q.meaning last) → place from ≡ places.Before s → valid_in place valid q.valid from → valid kept → MeansSame m m' → Passes (i.marks input) (i.marks mid) (i.failures input) (i.failures mid) → Answers (world i.step observers i.counts_failures fresh) m (call_from s kept (i.view input) (i.view mid) (i.failures input) (i.failures mid)) answer → ReasonedCall observers m false s (i.view input) (i.view mid) answer → CalledRest q i observers last_fresh (λ z. z ≡ given) place f last last' mid left kept state result answer → FollowsParts place f i observers fresh valid q m m' last last' input left from state result
     sequence_called {valid} {m} {m'} {mid} {s} {kept} {answer} starts h k e d stays same passes answers reasons l =
         let goes = goes_begun begun l.goes_on in

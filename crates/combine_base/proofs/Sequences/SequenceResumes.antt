@@ -9,6 +9,7 @@ use Rattle.combine_base.specs.Sequence.Readings.{following, sequel, continues}
 use Rattle.combine_base.specs.Parser.Answer.{Resumes}
 
 -- a part after others needs more
+-- goal: clause-answers
 pub following_resumes : {P T A B : Type 0} (c : Bool) (f : A → B) (r t : Reading P T A) (n : ℕ) (old new : View P T) → Resumes r t n old new → Resumes (following c f r) (following c f t) n old new
 following_resumes c f r t n old new h = record {
   gives = λ x b o j w. (after n false w.0, h.gives x b w.0 j w.1, ap (after n false) w.2 ∙ sym (joined_since 0 c f n w.0));
@@ -33,6 +34,7 @@ module _ {P T A B C : Type 0} (step : P → T → P) (f : A → B → C) (q : A 
     committed_on x b (Refused c) o k u = subst IsCommitted (sym u) k
     committed_on x b Undecided o k u = subst IsCommitted (sym u) tt
 
+    -- goal: clause-answers
     pub sequel_resumes : Resumes (sequel step f r q) (sequel step f t q) n old new
     sequel_resumes = record {
       gives = λ x b o j w. (after n false w.0, h.gives x b w.0 j w.1, goes_on x b w.0 o w.2);

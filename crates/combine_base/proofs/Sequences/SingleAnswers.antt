@@ -47,6 +47,7 @@ module _ {P T R A U E : Type 0} (w : World P T U E) (valid : U → Type 0) (m : 
     }
 
     module _ (d : begins_1 (first_fresh w.fresh) left) where
+      -- goal: returns-in-CommitOk-clause-called
       pub single_commits : (a : A) → Answers w m run (CommitOk a) → Answers single_world (tuple_1 m) (call_from z left old new f0 f1) (CommitOk (push_0 tt a))
       single_commits a x = inside_commits inside (λ k. d) (push_0 tt) (λ a n k x. (Accepted a n k, x, ap (λ i. Accepted (push_0 tt a) i k) (sym (zero-add n)))) a x
 

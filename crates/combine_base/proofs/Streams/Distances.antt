@@ -44,6 +44,7 @@ module _ {P T : Type 0} (step : P → T → P) where
     moves_to : new ≡ now → Moves step old new
     moves_to e = record { count = i; taken = rw e s }
 
+    -- goal: returns-in_err-uncons-clause-over
     pub over_stopped : (d : ℕ) → i < d → (k : Kind) → no_token counts_failures step now new f g k → PassesOver counts_failures step old new b g d (Err k)
     over_stopped d l kinds.End e = let z = found_end e in record { is = (omega arith, moves_to e.same) }
     over_stopped d l kinds.Read e = let z = e.1 in record { is = (omega arith, moves_more step i old now new s e.0) }
@@ -53,6 +54,7 @@ module _ {P T : Type 0} (step : P → T → P) where
     over_stopped d l kinds.Lost e = absurd e
 
 -- the same of other views, as long, from which as many tokens are taken
+-- goal: returns-clause-over
 pub over_as : {P Q T : Type 0} (counts_failures : Type 0) (step : P → T → P) (step' : Q → T → Q) (u v : View P T) (x y : View Q T) (f g : Failures) → length x.unread ≡ length u.unread → ((n : ℕ) → Takes step n u v → Takes step' n x y) → (d : ℕ) (r : Result Unit Kind) → PassesOver counts_failures step u v f g d r → PassesOver counts_failures step' x y f g d r
 over_as counts_failures step step' u v x y f g l t d (Ok i) h = record { is = (t d h.is.0, h.is.1) }
 over_as counts_failures step step' u v x y f g l t d (Err k) h = record { is = (by_kind k h.is.0, record { count = h.is.1.count; taken = t h.is.1.count h.is.1.taken }) }
@@ -67,6 +69,7 @@ over_as counts_failures step step' u v x y f g l t d (Err k) h = record { is = (
 
 -- all at once, for positions that are counts, and for those that are the length of the rest
 module _ {T : Type 0} where
+  -- goal: returns-clause-over
   pub takes_counted : (p i n q j : ℕ) (xs : List T) (b : Bool) → q ≡ p + n → j ≡ i + n → n ≤ length (drop i xs) → Takes one_more n (record { position = p; unread = drop i xs; is_open = b }) (record { position = q; unread = drop j xs; is_open = b })
   takes_counted p i n q j xs b e f h =
       let position = e ∙ sym (after_count p (take n (drop i xs)) ∙ ap (λ k. p + k) (length-take-le n (drop i xs) h)) in
@@ -78,6 +81,8 @@ module _ {T : Type 0} where
   less_after (suc n) [] p h = absurd (omega arith)
   less_after (suc n) (x ∷ xs) p h = less_after n xs (record { 0 = p.0 - 1 }) (omega arith) ∙ ap (λ k. record { 0 = k }) {x = p.0 - 1 - n} {y = p.0 - suc n} (omega arith)
 
+  -- goal: returns-clause-read
+  -- goal: returns-clause-over
   pub slice_takes : (n : ℕ) (xs ys : List T) → n ≤ length xs → ys ≡ drop n xs → Takes one_less n (slice_view xs) (slice_view ys)
   slice_takes n xs ys h e =
       let position : record { 0 = length ys } ≡ after_all one_less (slice_view xs).position (take n xs) = ap (λ k. record { 0 = k }) (ap length e ∙ length-drop n xs) ∙ sym (less_after n xs (slice_view xs).position h) in

@@ -14,9 +14,13 @@ pub record GivesOnly {Position Token Range Error Value State : Type 0} (valid : 
   pub rest : (s : State) → valid s → ReadsOnly (m.rest s) good
 
 -- a property that follows from goodness holds of each too
+-- goal: returns-clause-answers
+-- goal: returns-clause-refuses
+-- goal: returns-in-CommitErr-clause-answers
 pub gives_as : {Position Token Range Error Value State : Type 0} {valid : State → Type 0} {m : Meaning Position Token Range Error Value State} {good better : Value → Type 0} → ((a : Value) → good a → better a) → GivesOnly valid m good → GivesOnly valid m better
 gives_as f h = record { whole = record { one = λ v a n c w. f a (h.whole.one v a n c w) }; rest = λ s k. record { one = λ v a n c w. f a ((h.rest s k).one v a n c w) } }
 
 -- a property of all values holds of those that are given
+-- goal: gives_only
 pub given_by_all : {Position Token Range Error Value State : Type 0} {valid : State → Type 0} {m : Meaning Position Token Range Error Value State} {good : Value → Type 0} → ((a : Value) → good a) → GivesOnly valid m good
 given_by_all f = record { whole = record { one = λ v a n c w. f a }; rest = λ s k. record { one = λ v a n c w. f a } }

@@ -11,6 +11,7 @@ module _ {Position Token Range Error Value State N : Type 0} (lawful : N → Typ
 
 module _ {Position Token Range Error Value State : Type 0} {valid : State → Type 0} {m m' : Meaning Position Token Range Error Value State} where
   -- a meaning that is the same has one outcome too
+  -- goal: single
   pub means_one_as : MeansSame m m' → MeansOne valid m → MeansOne valid m'
   means_one_as h k = record {
     whole = record { one = λ v o o' w w'. k.whole.one v o o' ((h.whole v o).1 w) ((h.whole v o').1 w') };

@@ -111,13 +111,16 @@ abbrev pub refusals_from : {Position Token Range Error Value State : Type 0} →
 refusals_from m s = MeantRefusal (m.rest s) (m.refuses_from s)
 
 module _ {Position Token Range Error Value State : Type 0} {m m' : Meaning Position Token Range Error Value State} (h : MeansSame m m') where
+  -- goal: clause-refuses
   pub refusals_same : SameReasons (refusals m) (refusals m')
   refusals_same = meant_same m.whole m'.whole m.refuses m'.refuses h.whole h.refuses
 
+  -- goal: clause-refuses
   pub refusals_from_same : (s : State) → SameReasons (refusals_from m s) (refusals_from m' s)
   refusals_from_same s = meant_same (m.rest s) (m'.rest s) (m.refuses_from s) (m'.refuses_from s) (h.rest s) (h.refuses_from s)
 
 -- a default state has the errors of the start
+-- goal: clause-refuses
 pub refusals_begin : {Position Token Range Error Value State : Type 0} {fresh valid : State → Type 0} {m : Meaning Position Token Range Error Value State} → IsMeaning fresh valid m → (s : State) → fresh s → SameReasons (refusals_from m s) (refusals m)
 refusals_begin {m = m} h s d = meant_same (m.rest s) m.whole (m.refuses_from s) m.refuses (λ v o. h.start s v o d) (h.reasons s d)
 

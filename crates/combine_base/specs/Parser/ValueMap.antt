@@ -47,6 +47,7 @@ module _ {P T A B : Type 0} where
   both_ways r t f h v (Refused k) = h v _
   both_ways r t f h v Undecided = h v _
 
+  -- goal: laws
   pub mapped_is_meaning : {R E S : Type 0} (fresh valid : S → Type 0) (m : Meaning P T R E A S) (f : A → B → Type 0) → IsMeaning fresh valid m → IsMeaning fresh valid (mapped m f)
   mapped_is_meaning fresh valid m f h = record {
     whole = mapped_is_reading m.whole f h.whole;
@@ -56,9 +57,13 @@ module _ {P T A B : Type 0} where
     reasons = h.reasons;
   }
 
+  -- goal: single
   pub mapped_means_one : {R E S : Type 0} (valid : S → Type 0) (m : Meaning P T R E A S) (f : A → B → Type 0) → MeansOne valid m → MeansOne valid (mapped m f)
   mapped_means_one valid m f h = record { whole = mapped_is_single m.whole f h.whole; rest = λ s k. mapped_is_single (m.rest s) f (h.rest s k) }
 
+  -- goal: returns-clause-same
+  -- goal: returns-in-CommitErr-clause-same
+  -- goal: returns-in-CommitOk-clause-same
   pub mapped_means_same : {R E S : Type 0} (m m' : Meaning P T R E A S) (f : A → B → Type 0) → MeansSame m m' → MeansSame (mapped m f) (mapped m' f)
   mapped_means_same m m' f h = record {
     whole = both_ways m.whole m'.whole f h.whole;

@@ -51,6 +51,7 @@ tuple_5_is_meaning step errors h0 h1 h2 h3 h4 = followed_is_meaning step errors 
 pub tuple_5_means_one : {P T R X A B C D E SA SB SC SD SE : Type 0} (step : P → T → P) (errors : Observers T R P X) {va : SA → Type 0} {vb : SB → Type 0} {vc : SC → Type 0} {vd : SD → Type 0} {ve : SE → Type 0} {a : Meaning P T R X A SA} {b : Meaning P T R X B SB} {c : Meaning P T R X C SC} {d : Meaning P T R X D SD} {e : Meaning P T R X E SE} → MeansOne va a → MeansOne vb b → MeansOne vc c → MeansOne vd d → MeansOne ve e → MeansOne (valid_5 va vb vc vd ve) (tuple_5 step errors a b c d e)
 tuple_5_means_one step errors h0 h1 h2 h3 h4 = followed_means_one step errors place_5 push_4 (tuple_4_means_one step errors h0 h1 h2 h3) h4
 
+-- goal: returns-clause-same
 pub tuple_5_means_same : {P T R X A B C D E SA SB SC SD SE : Type 0} (step : P → T → P) (errors : Observers T R P X) {a a' : Meaning P T R X A SA} {b b' : Meaning P T R X B SB} {c c' : Meaning P T R X C SC} {d d' : Meaning P T R X D SD} {e e' : Meaning P T R X E SE} → MeansSame a a' → MeansSame b b' → MeansSame c c' → MeansSame d d' → MeansSame e e' → MeansSame (tuple_5 step errors a b c d e) (tuple_5 step errors a' b' c' d' e')
 tuple_5_means_same step errors h0 h1 h2 h3 h4 = followed_means_same step errors place_5 push_4 (tuple_4_means_same step errors h0 h1 h2 h3) h4
 
@@ -89,6 +90,7 @@ tuple_6_is_meaning step errors h0 h1 h2 h3 h4 h5 = followed_is_meaning step erro
 pub tuple_6_means_one : {P T R X A B C D E F SA SB SC SD SE SF : Type 0} (step : P → T → P) (errors : Observers T R P X) {va : SA → Type 0} {vb : SB → Type 0} {vc : SC → Type 0} {vd : SD → Type 0} {ve : SE → Type 0} {vf : SF → Type 0} {a : Meaning P T R X A SA} {b : Meaning P T R X B SB} {c : Meaning P T R X C SC} {d : Meaning P T R X D SD} {e : Meaning P T R X E SE} {f : Meaning P T R X F SF} → MeansOne va a → MeansOne vb b → MeansOne vc c → MeansOne vd d → MeansOne ve e → MeansOne vf f → MeansOne (valid_6 va vb vc vd ve vf) (tuple_6 step errors a b c d e f)
 tuple_6_means_one step errors h0 h1 h2 h3 h4 h5 = followed_means_one step errors place_6 push_5 (tuple_5_means_one step errors h0 h1 h2 h3 h4) h5
 
+-- goal: returns-clause-same
 pub tuple_6_means_same : {P T R X A B C D E F SA SB SC SD SE SF : Type 0} (step : P → T → P) (errors : Observers T R P X) {a a' : Meaning P T R X A SA} {b b' : Meaning P T R X B SB} {c c' : Meaning P T R X C SC} {d d' : Meaning P T R X D SD} {e e' : Meaning P T R X E SE} {f f' : Meaning P T R X F SF} → MeansSame a a' → MeansSame b b' → MeansSame c c' → MeansSame d d' → MeansSame e e' → MeansSame f f' → MeansSame (tuple_6 step errors a b c d e f) (tuple_6 step errors a' b' c' d' e' f')
 tuple_6_means_same step errors h0 h1 h2 h3 h4 h5 = followed_means_same step errors place_6 push_5 (tuple_5_means_same step errors h0 h1 h2 h3 h4) h5
 
@@ -128,6 +130,7 @@ tuple_7_is_meaning step errors h0 h1 h2 h3 h4 h5 h6 = followed_is_meaning step e
 pub tuple_7_means_one : {P T R X A B C D E F G SA SB SC SD SE SF SG : Type 0} (step : P → T → P) (errors : Observers T R P X) {va : SA → Type 0} {vb : SB → Type 0} {vc : SC → Type 0} {vd : SD → Type 0} {ve : SE → Type 0} {vf : SF → Type 0} {vg : SG → Type 0} {a : Meaning P T R X A SA} {b : Meaning P T R X B SB} {c : Meaning P T R X C SC} {d : Meaning P T R X D SD} {e : Meaning P T R X E SE} {f : Meaning P T R X F SF} {g : Meaning P T R X G SG} → MeansOne va a → MeansOne vb b → MeansOne vc c → MeansOne vd d → MeansOne ve e → MeansOne vf f → MeansOne vg g → MeansOne (valid_7 va vb vc vd ve vf vg) (tuple_7 step errors a b c d e f g)
 tuple_7_means_one step errors h0 h1 h2 h3 h4 h5 h6 = followed_means_one step errors place_7 push_6 (tuple_6_means_one step errors h0 h1 h2 h3 h4 h5) h6
 
+-- goal: returns-clause-same
 pub tuple_7_means_same : {P T R X A B C D E F G SA SB SC SD SE SF SG : Type 0} (step : P → T → P) (errors : Observers T R P X) {a a' : Meaning P T R X A SA} {b b' : Meaning P T R X B SB} {c c' : Meaning P T R X C SC} {d d' : Meaning P T R X D SD} {e e' : Meaning P T R X E SE} {f f' : Meaning P T R X F SF} {g g' : Meaning P T R X G SG} → MeansSame a a' → MeansSame b b' → MeansSame c c' → MeansSame d d' → MeansSame e e' → MeansSame f f' → MeansSame g g' → MeansSame (tuple_7 step errors a b c d e f g) (tuple_7 step errors a' b' c' d' e' f' g')
 tuple_7_means_same step errors h0 h1 h2 h3 h4 h5 h6 = followed_means_same step errors place_7 push_6 (tuple_6_means_same step errors h0 h1 h2 h3 h4 h5) h6
 
@@ -162,11 +165,14 @@ push_7 t last = (t.0, t.1, t.2, t.3, t.4, t.5, t.6, last)
 abbrev pub tuple_8 : {P T R X A B C D E F G H SA SB SC SD SE SF SG SH : Type 0} → (P → T → P) → Observers T R P X → Meaning P T R X A SA → Meaning P T R X B SB → Meaning P T R X C SC → Meaning P T R X D SD → Meaning P T R X E SE → Meaning P T R X F SF → Meaning P T R X G SG → Meaning P T R X H SH → Meaning P T R X (A × B × C × D × E × F × G × H) (Kept8 A B C D E F G SA SB SC SD SE SF SG SH)
 tuple_8 step errors a b c d e f g h = followed step errors place_8 push_7 (tuple_7 step errors a b c d e f g) h
 
+-- goal: returns-clause-answers
+-- goal: returns-clause-refuses
 pub tuple_8_is_meaning : {P T R X A B C D E F G H SA SB SC SD SE SF SG SH : Type 0} (step : P → T → P) (errors : Observers T R P X) {fa va : SA → Type 0} {fb vb : SB → Type 0} {fc vc : SC → Type 0} {fd vd : SD → Type 0} {fe ve : SE → Type 0} {ff vf : SF → Type 0} {fg vg : SG → Type 0} {fh vh : SH → Type 0} {a : Meaning P T R X A SA} {b : Meaning P T R X B SB} {c : Meaning P T R X C SC} {d : Meaning P T R X D SD} {e : Meaning P T R X E SE} {f : Meaning P T R X F SF} {g : Meaning P T R X G SG} {h : Meaning P T R X H SH} → IsMeaning fa va a → IsMeaning fb vb b → IsMeaning fc vc c → IsMeaning fd vd d → IsMeaning fe ve e → IsMeaning ff vf f → IsMeaning fg vg g → IsMeaning fh vh h → IsMeaning (begins_8 (first_fresh fa)) (valid_8 va vb vc vd ve vf vg vh) (tuple_8 step errors a b c d e f g h)
 tuple_8_is_meaning step errors h0 h1 h2 h3 h4 h5 h6 h7 = followed_is_meaning step errors place_8 push_7 (tuple_7_is_meaning step errors h0 h1 h2 h3 h4 h5 h6) h7
 
 pub tuple_8_means_one : {P T R X A B C D E F G H SA SB SC SD SE SF SG SH : Type 0} (step : P → T → P) (errors : Observers T R P X) {va : SA → Type 0} {vb : SB → Type 0} {vc : SC → Type 0} {vd : SD → Type 0} {ve : SE → Type 0} {vf : SF → Type 0} {vg : SG → Type 0} {vh : SH → Type 0} {a : Meaning P T R X A SA} {b : Meaning P T R X B SB} {c : Meaning P T R X C SC} {d : Meaning P T R X D SD} {e : Meaning P T R X E SE} {f : Meaning P T R X F SF} {g : Meaning P T R X G SG} {h : Meaning P T R X H SH} → MeansOne va a → MeansOne vb b → MeansOne vc c → MeansOne vd d → MeansOne ve e → MeansOne vf f → MeansOne vg g → MeansOne vh h → MeansOne (valid_8 va vb vc vd ve vf vg vh) (tuple_8 step errors a b c d e f g h)
 tuple_8_means_one step errors h0 h1 h2 h3 h4 h5 h6 h7 = followed_means_one step errors place_8 push_7 (tuple_7_means_one step errors h0 h1 h2 h3 h4 h5 h6) h7
 
+-- goal: returns-clause-same
 pub tuple_8_means_same : {P T R X A B C D E F G H SA SB SC SD SE SF SG SH : Type 0} (step : P → T → P) (errors : Observers T R P X) {a a' : Meaning P T R X A SA} {b b' : Meaning P T R X B SB} {c c' : Meaning P T R X C SC} {d d' : Meaning P T R X D SD} {e e' : Meaning P T R X E SE} {f f' : Meaning P T R X F SF} {g g' : Meaning P T R X G SG} {h h' : Meaning P T R X H SH} → MeansSame a a' → MeansSame b b' → MeansSame c c' → MeansSame d d' → MeansSame e e' → MeansSame f f' → MeansSame g g' → MeansSame h h' → MeansSame (tuple_8 step errors a b c d e f g h) (tuple_8 step errors a' b' c' d' e' f' g' h')
 tuple_8_means_same step errors h0 h1 h2 h3 h4 h5 h6 h7 = followed_means_same step errors place_8 push_7 (tuple_7_means_same step errors h0 h1 h2 h3 h4 h5 h6) h7

@@ -133,6 +133,7 @@ module _ {P T R E A B C S L Z : Type 0} (step : P → T → P) (place : Z → Se
         either (refusals_begin h s d v w k e).1 (behind_into step q.refuses q.refuses m.whole (m.rest s) (λ v o. (h.start s v o d).1) (λ a c v w k e x. x) v w k e),
       )
 
+      -- goal: laws
       pub sequence_is_meaning : IsMeaning (begins_sequence place fresh) (λ z. in_place valid valid_last (place z)) sequence
       sequence_is_meaning = record {
         whole = sequel_reads step q.join m.whole q.whole h.whole k.whole.whole;
@@ -178,6 +179,7 @@ module _ {P T R E A B C S L Z : Type 0} (step : P → T → P) (place : Z → Se
     same_reasons (Before s) = same_either (refusals_from m s) (refusals_from m' s) (RefusesBehind step q.refuses (m.rest s)) (RefusesBehind step q'.refuses (m'.rest s)) (refusals_from_same h s) (same_behind (m.rest s) (m'.rest s) (h.rest s))
     same_reasons (Last l) = k.refuses_from l
 
+    -- goal: clause-same
     pub sequence_means_same : MeansSame (sequence m q) (sequence m' q')
     sequence_means_same = record {
       whole = same_sequel m.whole m'.whole h.whole;

@@ -55,6 +55,9 @@ module _ {P T R E A U : Type 0} where
     rest = λ z d. following_is_single false (push_0 tt) (m.rest (only z).state) (h.rest (only z).state d);
   }
 
+  -- goal: returns-in-CommitErr-clause-called
+  -- goal: returns-in-CommitOk-clause-called
+  -- goal: returns-in-PeekErr-clause-called
   pub tuple_1_means_same : {m m' : Meaning P T R E A U} → MeansSame m m' → MeansSame (tuple_1 m) (tuple_1 m')
   tuple_1_means_same {m} {m'} h = record {
     whole = following_same false (push_0 tt) m.whole m'.whole h.whole;
@@ -73,12 +76,14 @@ module _ {P T R E A B C S U Z : Type 0} (step : P → T → P) (errors : Observe
   abbrev pub followed : Meaning P T R E A S → Meaning P T R E B U → Meaning P T R E C Z
   followed m n = sequence step place m (independent errors f n)
 
+  -- goal: returns-in-Before-clause-follows
   pub followed_is_meaning : {fresh valid : S → Type 0} {m : Meaning P T R E A S} {last_fresh last_valid : U → Type 0} {n : Meaning P T R E B U} → IsMeaning fresh valid m → IsMeaning last_fresh last_valid n → IsMeaning (begins_sequence place fresh) (valid_in place valid last_valid) (followed m n)
   followed_is_meaning {fresh} {valid} {m} {last_fresh} {last_valid} {n} h k = sequence_is_meaning step place m (independent errors f n) fresh valid (λ l. last_valid l.state) h (independent_is_second errors f valid m last_fresh last_valid n k)
 
   pub followed_means_one : {valid : S → Type 0} {m : Meaning P T R E A S} {last_valid : U → Type 0} {n : Meaning P T R E B U} → MeansOne valid m → MeansOne last_valid n → MeansOne (valid_in place valid last_valid) (followed m n)
   followed_means_one {valid} {m} {last_valid} {n} h k = sequence_means_one step place m (independent errors f n) valid (λ l. last_valid l.state) h (independent_one errors f step valid last_valid m n k)
 
+  -- goal: clause-same
   pub followed_means_same : {m m' : Meaning P T R E A S} {n n' : Meaning P T R E B U} → MeansSame m m' → MeansSame n n' → MeansSame (followed m n) (followed m' n')
   followed_means_same {m} {m'} {n} {n'} h k = sequence_means_same step place m m' (independent errors f n) (independent errors f n') h (independent_same errors f n n' k)
 
@@ -97,6 +102,7 @@ tuple_2_is_meaning step errors h0 h1 = followed_is_meaning step errors place_2 p
 pub tuple_2_means_one : {P T R E A B U V : Type 0} (step : P → T → P) (errors : Observers T R P E) {vu : U → Type 0} {vv : V → Type 0} {m : Meaning P T R E A U} {n : Meaning P T R E B V} → MeansOne vu m → MeansOne vv n → MeansOne (valid_2 vu vv) (tuple_2 step errors m n)
 tuple_2_means_one step errors h0 h1 = followed_means_one step errors place_2 push_1 (tuple_1_means_one h0) h1
 
+-- goal: returns-clause-same
 pub tuple_2_means_same : {P T R E A B U V : Type 0} (step : P → T → P) (errors : Observers T R P E) {m m' : Meaning P T R E A U} {n n' : Meaning P T R E B V} → MeansSame m m' → MeansSame n n' → MeansSame (tuple_2 step errors m n) (tuple_2 step errors m' n')
 tuple_2_means_same step errors h0 h1 = followed_means_same step errors place_2 push_1 (tuple_1_means_same h0) h1
 
@@ -106,14 +112,18 @@ tuple_3_is_meaning step errors h0 h1 h2 = followed_is_meaning step errors place_
 pub tuple_3_means_one : {P T R E A B C U V W : Type 0} (step : P → T → P) (errors : Observers T R P E) {vu : U → Type 0} {vv : V → Type 0} {vw : W → Type 0} {m : Meaning P T R E A U} {n : Meaning P T R E B V} {p : Meaning P T R E C W} → MeansOne vu m → MeansOne vv n → MeansOne vw p → MeansOne (valid_3 vu vv vw) (tuple_3 step errors m n p)
 tuple_3_means_one step errors h0 h1 h2 = followed_means_one step errors place_3 push_2 (tuple_2_means_one step errors h0 h1) h2
 
+-- goal: returns-clause-same
 pub tuple_3_means_same : {P T R E A B C U V W : Type 0} (step : P → T → P) (errors : Observers T R P E) {m m' : Meaning P T R E A U} {n n' : Meaning P T R E B V} {p p' : Meaning P T R E C W} → MeansSame m m' → MeansSame n n' → MeansSame p p' → MeansSame (tuple_3 step errors m n p) (tuple_3 step errors m' n' p')
 tuple_3_means_same step errors h0 h1 h2 = followed_means_same step errors place_3 push_2 (tuple_2_means_same step errors h0 h1) h2
 
+-- goal: returns-clause-answers
+-- goal: returns-clause-refuses
 pub tuple_4_is_meaning : {P T R E A B C D U V W X : Type 0} (step : P → T → P) (errors : Observers T R P E) {fu vu : U → Type 0} {fv vv : V → Type 0} {fw vw : W → Type 0} {fx vx : X → Type 0} {m : Meaning P T R E A U} {n : Meaning P T R E B V} {p : Meaning P T R E C W} {q : Meaning P T R E D X} → IsMeaning fu vu m → IsMeaning fv vv n → IsMeaning fw vw p → IsMeaning fx vx q → IsMeaning (begins_4 (first_fresh fu)) (valid_4 vu vv vw vx) (tuple_4 step errors m n p q)
 tuple_4_is_meaning step errors h0 h1 h2 h3 = followed_is_meaning step errors place_4 push_3 (tuple_3_is_meaning step errors h0 h1 h2) h3
 
 pub tuple_4_means_one : {P T R E A B C D U V W X : Type 0} (step : P → T → P) (errors : Observers T R P E) {vu : U → Type 0} {vv : V → Type 0} {vw : W → Type 0} {vx : X → Type 0} {m : Meaning P T R E A U} {n : Meaning P T R E B V} {p : Meaning P T R E C W} {q : Meaning P T R E D X} → MeansOne vu m → MeansOne vv n → MeansOne vw p → MeansOne vx q → MeansOne (valid_4 vu vv vw vx) (tuple_4 step errors m n p q)
 tuple_4_means_one step errors h0 h1 h2 h3 = followed_means_one step errors place_4 push_3 (tuple_3_means_one step errors h0 h1 h2) h3
 
+-- goal: returns-clause-same
 pub tuple_4_means_same : {P T R E A B C D U V W X : Type 0} (step : P → T → P) (errors : Observers T R P E) {m m' : Meaning P T R E A U} {n n' : Meaning P T R E B V} {p p' : Meaning P T R E C W} {q q' : Meaning P T R E D X} → MeansSame m m' → MeansSame n n' → MeansSame p p' → MeansSame q q' → MeansSame (tuple_4 step errors m n p q) (tuple_4 step errors m' n' p' q')
 tuple_4_means_same step errors h0 h1 h2 h3 = followed_means_same step errors place_4 push_3 (tuple_3_means_same step errors h0 h1 h2) h3

@@ -124,6 +124,7 @@ module _ {P T R : Type 0} (size : T → ℕ) (spells : R → List T → Type 0) 
           still (Split a l) = Split (inside_stays size filled v.unread x d a) l
       stays d v x m Undecided e i p = absurd i
 
+      -- goal: laws
       pub searching_is_reading : (d : ℕ) → IsReading (searching d)
       searching_is_reading d = record {
         ended = λ v e p. let a = p.1 in cc;

@@ -71,6 +71,7 @@ module _ {T R : Type 0} (size : T → ℕ) (spells : R → List T → Type 0) (a
     pub missing_is : (us : List T) → (asking size spells answers).missing us → (n : ℕ) × f us ≡ NotFound n
     missing_is us p = misses_whole p.0 us p.1
 
+    -- goal: returns
     pub stable_is_one : IsOneSearch (asking size spells answers)
     stable_is_one = record {
       one = λ us i j p q. ap place (sym (found_is us i p) ∙ found_is us j q);

@@ -85,6 +85,7 @@ module _ {T R : Type 0} (size : T → ℕ) (spells : R → List T → Type 0) (a
     place = p.place ∙ ap (λ vs. size_of size vs + p.more) (sym (take-append-le p.count us x p.went.within));
   }
 
+  -- goal: stays
   pub asking_is_search : IsSearch asking
   asking_is_search = record { stays = λ us x i p. (p.0, finds_stays p.0 us x i p.1) }
 

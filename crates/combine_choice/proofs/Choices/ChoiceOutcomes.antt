@@ -106,6 +106,7 @@ module _ {P T R V S S' E : Type 0} (w : World P T S E) (fresh : S' → Type 0) (
           losing false false i j y = ((z.lost i y.0).1, leaves (l y.1) y.1)
 
       -- an error that isn't need of more
+      -- goal: clause-answers
       pub tries_fails : (e : E) → ((w.kind e ≡ kinds.End) × (r.new.is_open ≡ true) → ⊥) → Answers w m r (CommitErr e) → (Leaves w r → fresh u.left) → Answers (around w fresh) m' u (CommitErr e)
       tries_fails e i p l = settles w fresh m m' r u e i p (settling l)
 
@@ -147,10 +148,12 @@ module _ {P T R V S S' E : Type 0} (w : World P T S E) (fresh : S' → Type 0) (
           committing x b o j h (Here i k) = p.resumes.committed x b o (follows x b j) h i
           committing x b o j h (Later d i) = absurd (stays x b j d h)
 
+      -- goal: clause-answers
       pub tries_asks : (e : E) → (w.kind e ≡ kinds.End) × (r.new.is_open ≡ true) → Answers w m r (CommitErr e) → ((v : View P T) (o : Outcome V) → m'.rest u.left v o → OrElse (m.rest r.left) q v o) → ((v : View P T) → m'.lost u.left v → m.lost r.left v) → Answers (around w fresh) m' u (CommitErr e)
       tries_asks e i p g l = needs w fresh m m' r u e i p (ap (λ (x : View P T). x.is_open) z.same) (asks g l)
 
       -- the last alternative was refused peeked
+      -- goal: clause-answers
       pub tries_peeks : (e : Tracked E) → ((v : View P T) → q v (Refused false)) → Answers w m r (PeekErr e) → (Leaves w r → fresh u.left) → Answers (around w fresh) m' u (PeekErr e)
       tries_peeks e g p l = record { is = by_kind (w.kind e.error) p.is }
         where
@@ -180,6 +183,7 @@ module _ {P T R V S S' E : Type 0} (w : World P T S E) (fresh : S' → Type 0) (
       tries_needs (PeekErr e) i p g l = absurd i
 
 -- the choice begins with this alternative
+-- goal: clause-answers
 pub tries_start : {P T R V S S' E : Type 0} (w : World P T S E) (fresh : S' → Type 0) (m : Meaning P T R E V S) (q : Reading P T V) (m' : Meaning P T R E V S') (valid : S → Type 0) → IsMeaning w.fresh valid m → (first : Bool) (s : S) (given : S') → (first ≡ true → w.fresh s) → ((v : View P T) (o : Outcome V) → OrElse (m.rest s) q v o → m'.rest given v o) → ((v : View P T) → m.lost s v → m'.lost given v) → (m'.keeps → m.keeps) → (m'.puts_back → m.puts_back) → (m'.heapless → m.heapless) → (v : View P T) (f : Failures) → Tries w fresh m q m' first s v f false given v f
 tries_start w fresh m q m' valid h first s given d g l k b e v f = record {
   same = refl;
@@ -195,6 +199,7 @@ tries_start w fresh m q m' valid h first s given d g l k b e v f = record {
 
 -- an alternative was refused peeked and the stream put back: the next is tried
 module _ {P T R V S S' S'' E : Type 0} (w : World P T S E) (fresh : S' → Type 0) (m : Meaning P T R E V S) (q : Reading P T V) (m' : Meaning P T R E V S') (fresh2 valid2 : S'' → Type 0) (m2 : Meaning P T R E V S'') (q2 : Reading P T V) (h : IsMeaning fresh2 valid2 m2) (r : CallRecord P T S) (began : Bool) (given : S') (old : View P T) (before : Failures) (z : Tries w fresh m q m' r.first r.state r.old r.before began given old before) where
+  -- goal: clause-answers
   pub tries_next : {C : Type 0} {a d : C → View P T → Type 0} → IsReading (begun m r.first r.state) → (e : Tracked E) → Answers w m r (PeekErr e) → ((v : View P T) (o : Outcome V) → OrElse m2.whole q2 v o → q v o) → (m'.keeps → m2.keeps) → (m'.puts_back → m2.puts_back) → (m'.heapless → m2.heapless) → (first : Bool) (s : S'') → fresh2 s → (now : View P T) (so_far : Failures) → now ≡ r.old → (w.counts_failures → so_far ≡ r.after) → Passes a d r.before so_far → Tries (around w fresh2) fresh m2 q2 m' first s now so_far began given old before
   tries_next y e p i ke pu le first s d now so_far n f a =
       let c = peeked_refusal w m r (w.kind e.error) p.is in

@@ -39,6 +39,7 @@ module _ {P T R V S S' E : Type 0} (s : Observers T R P E) (joins : E → E → 
     here = begun_refuses (either_of joins a b) first given old new
 
     -- the first alternative's committed error is the choice's
+    -- goal: clause-refuses
     pub first_reasons : (e : E) → Reasoned {V = V} s.kind new.is_open (begun_refusals a first q old new) (CommitErr e) → Reasoned {V = V} s.kind new.is_open here (CommitErr e)
     first_reasons e r = reasons_hand_on s.kind new.is_open (begun_refusals a first q old new) here e (λ x p. from_first first given q d old new true x (record { is = inl p })) r
 
@@ -59,6 +60,7 @@ module _ {P T R V S S' E : Type 0} (s : Observers T R P E) (joins : E → E → 
       merging u (CommitErr e) p g = reasons_fault s.kind new.is_open here e kinds.Memory g.0 tt
       merging u (PeekErr e) p g = reasons_peeked s.kind new.is_open here e (both_peek u.error e.error p g)
 
+      -- goal: clause-refuses
       pub second_reasons : (answer result : ParseResult V E) → Reasoned s.kind new.is_open (begun_refusals b first l old new) answer → AfterRefusal s joins t.error answer result → Reasoned s.kind new.is_open here result
       second_reasons (CommitOk x) result p g = rw g.is (reasons_ok s.kind new.is_open here x)
       second_reasons (PeekOk x) result p g = rw g.is (reasons_peek_ok s.kind new.is_open here x)

@@ -21,6 +21,7 @@ use Rattle.combine_choice.specs.declared.or.first.FirstResult.{FirstResult}
 use Rattle.combine_choice.specs.declared.or.first.FirstResult.TheVariants.{Done, RunsLater}
 use Rattle.combine_choice.specs.Choice.FirstAlternative.{FirstDid, FirstAnswered, FirstFailed, FirstUnreset, IsFinal, first_begins_in, first_valid, JudgesFirst, StreamStays}
 
+-- goal: clause-answers
 pub asks_or_not : {V E : Type 0} (kind : E → Kind) (b : Bool) (answer : ParseResult V E) → NeedsMore kind b answer ⊎ (NeedsMore kind b answer → ⊥)
 asks_or_not kind b (CommitOk v) = inr (λ q. q)
 asks_or_not kind b (PeekOk v) = inr (λ q. q)

@@ -49,6 +49,8 @@ module _ {P T R V S S' E : Type 0} (step : P → T → P) (errors : Observers T 
       second_reasons errors joins h k first given z.ran.state z.ran.begun old new kept z.fresh z.view u (reasoned_meant z.ran.answers z.ran.refuses) answer result i s.is
 
   module _ {C : Type 0} {a' : Meaning P T R E V S} {law : Type 0} {x y : C → View P T → Type 0} where
+    -- goal: returns-in-Done
+    -- goal: returns-in-Done-clause-chose
     pub ended_chose : {law' : Type 0} → law' → (answer : ParseResult V E) → Tried (world step errors counts_failures fresh) fresh' valid law a a' x y first given none old now before so_far (Done answer) → Chose (world step errors counts_failures (λ s. s ≡ Peek)) (law × law') (or_valid valid valid') (either_of joins a b) (either_of joins a' b) x y (record { first = first; state = given; left = none; old = old; new = now; before = before; after = so_far }) answer
     ended_chose l' answer t = record {
       lawful = (t.lawful, l');
@@ -66,6 +68,7 @@ module _ {P T R V S S' E : Type 0} (step : P → T → P) (errors : Observers T 
       pub is_no_fault : NoFault errors.kind refused
       is_no_fault = first_no_fault step errors counts_failures joins h k first given old before none now so_far kept refused t.turned.is
 
+      -- goal: returns-in-RunsLater-clause-chose
       pub gone_chose : JoinsKinds errors joins → {law' : Type 0} {b' : Meaning P T R E V S'} {z : C → View P T → Type 0} (new : View P T) (after : Failures) (left : OrState S S') (result : ParseResult V E) → Followed step errors counts_failures joins fresh' law' valid' b b' y z first kept none left refused now new so_far after result → Chose (world step errors counts_failures (λ s. s ≡ Peek)) (law × law') (or_valid valid valid') (either_of joins a b) (either_of joins a' b') x z (record { first = first; state = given; left = left; old = old; new = new; before = before; after = after }) result
       gone_chose kinds_of {law'} {b'} {z} new after left result f = record {
         lawful = (t.lawful, f.called.lawful);
@@ -87,6 +90,8 @@ may_settle {P} {T} {R} {V} {S} {E} w {law} {accepts} {m} r refused n answer c = 
     by_answer (PeekErr t) p = no_fault w m r t p
 
 -- the result of the first part, from its call and from what is done with its result
+-- goal: returns-clause-tried
+-- goal: returns-in-Err-clause-tried
 pub tried : {P T R V S S' E C : Type 0} (step : P → T → P) (errors : Observers T R P E) (counts_failures : Type 0) {fresh valid : S → Type 0} (later : S' → Type 0) {a a' : Meaning P T R E V S} {law : Type 0} {x y z : C → View P T → Type 0} (first : Bool) (given left : OrState S S') (s stopped : S) (old mid new : View P T) (before middle after : Failures) (stands : View P T → Type 0) → first_begins_in fresh first given s → valid s → (answer : ParseResult V E) → Chose (world step errors counts_failures fresh) law valid a a' x y (record { first = first; state = s; left = stopped; old = old; new = mid; before = before; after = middle }) answer → stands old → Passes y z middle after → (turn : FirstResult V S' E) → JudgesFirst step errors.kind counts_failures later stands stopped left mid new middle after answer turn → Tried (world step errors counts_failures fresh) later valid law a a' x z first given left old new before after turn
 tried step errors counts_failures {fresh} {valid} later {a} {a'} {law} {x} {y} {z} first given left s stopped old mid new before middle after stands b h answer call back p turn g = record {
   lawful = call.lawful;
@@ -96,6 +101,7 @@ tried step errors counts_failures {fresh} {valid} later {a} {a'} {law} {x} {y} {
 }
 
 -- the call resumes while a later part is running: the first isn't run
+-- goal: returns-in-Err-clause-tried
 pub resumed : {P T R V S S' E C : Type 0} (w : World P T S E) (later : S' → Type 0) (valid : S → Type 0) {law : Type 0} (a : Meaning P T R E V S) (x : C → View P T → Type 0) (given left : OrState S S') (kept : S') (old : View P T) (before : Failures) → law → (first : Bool) → first ≡ false → given ≡ B kept → left ≡ Peek → Tried {V = V} w later valid law a a x x first given left old old before before (RunsLater kept None)
 resumed w later valid a x given left kept old before l first e i n = record {
   lawful = l;

@@ -24,6 +24,7 @@ module _ {P T R A S E : Type 0} (w : World P T S E) (m : Meaning P T R E A S) (r
   tries : Tries w w.fresh (mapped m is_some) nothing_taken (optional m) r.first r.state r.old r.before r.first r.state r.old r.before
   tries = otherwise_tries w (mapped m is_some) nothing_taken r.first r.state r.old r.before
 
+  -- goal: returns-in-CommitOk-clause-answers
   pub optional_ok : (a : A) → Answers w m r (CommitOk a) → Answers w (optional m) r (CommitOk (Some a))
   optional_ok a p = own_commit_ok w (mapped m is_some) (optional m) nothing_taken (λ s v o i. i) (λ s v i. i) r r tries refl refl refl (Some a) (mapped_ok w m is_some r a (Some a) refl p)
 
@@ -34,6 +35,7 @@ module _ {P T R A S E : Type 0} (w : World P T S E) (m : Meaning P T R E A S) (r
   optional_err e p = own_error w (mapped m is_some) (optional m) nothing_taken (λ s v o i. i) (λ s v i. i) r r tries refl refl refl e (mapped_err w m is_some r e p)
 
   -- refused peeked, and put back
+  -- goal: returns-in-Ok-clause-answers
   pub optional_none : (e : Tracked E) (now : View P T) (later : Failures) → now ≡ r.old → (w.counts_failures → later ≡ r.after) → Answers w m r (PeekErr e) → Answers w (optional m) (record r { new = now; after = later }) (PeekOk None)
   optional_none e now later n f p =
       let fresh = (peeked_refusal w m r (w.kind e.error) p.is).leaves.state in

@@ -66,6 +66,7 @@ module _ {P T V : Type 0} where
     either_within h k v a n c (Here m f) = h.within v a n c m
     either_within h k v a n c (Later d m) = k.within v a n c m
 
+    -- goal: laws
     pub either_is_reading : IsReading r → IsReading q → IsReading (OrElse r q)
     either_is_reading h k = record { ended = either_ended h k; stays = either_stays h k; peeked = either_peeked h k; within = either_within h k }
 

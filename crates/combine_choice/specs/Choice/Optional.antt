@@ -37,6 +37,7 @@ module _ {P T R E V S : Type 0} where
   pub otherwise_means_one : (valid : S → Type 0) (m : Meaning P T R E V S) (q : Reading P T V) → MeansOne valid m → IsSingle q → MeansOne valid (otherwise m q)
   otherwise_means_one valid m q h k = record { whole = either_is_single m.whole q h.whole k; rest = λ s d. either_is_single (m.rest s) q (h.rest s d) k }
 
+  -- goal: clause-same
   pub otherwise_means_same : (m m' : Meaning P T R E V S) (q : Reading P T V) → MeansSame m m' → MeansSame (otherwise m q) (otherwise m' q)
   otherwise_means_same m m' q h = record {
     whole = either_both m.whole m'.whole q q h.whole (agree_self q);
@@ -77,5 +78,8 @@ module _ {P T A : Type 0} where
     pub optional_means_one : (valid : S → Type 0) (m : Meaning P T R E A S) → MeansOne valid m → MeansOne valid (optional m)
     optional_means_one valid m h = otherwise_means_one valid (mapped m is_some) nothing_taken (mapped_means_one valid m is_some h) (record { one = λ v o o' p q. cc })
 
+    -- goal: returns-clause-same
+    -- goal: returns-in-CommitErr-clause-same
+    -- goal: returns-in-CommitOk-clause-same
     pub optional_means_same : (m m' : Meaning P T R E A S) → MeansSame m m' → MeansSame (optional m) (optional m')
     optional_means_same m m' h = otherwise_means_same (mapped m is_some) (mapped m' is_some) nothing_taken (mapped_means_same m m' is_some h)

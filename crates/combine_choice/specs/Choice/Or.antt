@@ -63,6 +63,7 @@ module _ {P T R E V S S' : Type 0} (joins : E → E → E → Type 0) where
     rest_reads h k (A s) d = either_is_reading (a.rest s) (OrElse b.whole refused) (h.rest s d) (second_reads k)
     rest_reads h k (B t) d = either_is_reading (b.rest t) refused (k.rest t d) refused_is_reading
 
+    -- goal: laws
     pub or_is_meaning : IsMeaning f f' a → IsMeaning g g' b → IsMeaning (λ s. s ≡ Peek) (or_valid f' g') (either_of a b)
     or_is_meaning h k = record {
       whole = rest_reads h k Peek tt;
@@ -102,6 +103,7 @@ module _ {P T R E V S S' : Type 0} (joins : E → E → E → Type 0) where
     reasons_same (A s) = or_same joins (a.rest s) (a'.rest s) (refusals_from a s) (refusals_from a' s) (refusals b) (refusals b') (h.rest s) (refusals_from_same h s) (refusals_same k)
     reasons_same (B t) = k.refuses_from t
 
+    -- goal: returns-clause-same
     pub or_means_same : MeansSame (either_of a b) (either_of a' b')
     or_means_same = record {
       whole = rest_same Peek;
@@ -125,6 +127,7 @@ pub record StartsSame {P T R E V S S' : Type 0} (m : Meaning P T R E V S) (m' : 
 
 module _ {P T R E V S S' S'' : Type 0} (joins : E → E → E → Type 0) (a : Meaning P T R E V S) (b : Meaning P T R E V S') (c : Meaning P T R E V S'') where
   -- a choice grouped from the left means the same as grouped from the right
+  -- goal: returns
   pub is_associative : StartsSame (either_of joins (either_of joins a b) c) (either_of joins a (either_of joins b c))
   is_associative = record {
     whole = either_lists_assoc a.whole b.whole c.whole;

@@ -197,6 +197,9 @@ module _ {P T V R S E : Type 0} (errors : Observers T R P E) (size : T → ℕ) 
       rest = λ s k. record { one = recognizes_one size spells step filled s.distance (m.rest s.part) (h.rest s.part k) };
     }
 
+  -- goal: returns-clause-same
+  -- goal: returns-else-needs_more-clause-same
+  -- goal: returns-in-CommitOk-clause-same
   pub recognized_means_same : (m m' : Meaning P T R E V S) → MeansSame m m' → MeansSame (recognized m) (recognized m')
   recognized_means_same m m' h = record {
     whole = recognizes_both size spells step 0 m.whole m'.whole h.whole;

@@ -26,11 +26,13 @@ module _ {P T R E A V S : Type 0} (step : P → T → P) (errors : Observers T R
   repeated m = turns_from step errors b no_value_ends c (none_yet c.none) m (from_start m)
 
 module _ {P T R E A V S : Type 0} (step : P → T → P) (errors : Observers T R P E) (b : Bounds) (c : Collecting A V) where
+  -- goal: laws
   pub repeated_is_meaning : (fresh valid : S → Type 0) (m : Meaning P T R E A S) → IsMeaning fresh valid m → IsMeaning (fresh_turns fresh) (λ s. valid (running_turn s)) (repeated step errors b c m)
   repeated_is_meaning fresh valid m h = turns_is_meaning step errors b no_value_ends c (none_yet c.none) fresh valid m (from_start m) (plain_is_turn h)
 
   pub repeated_means_one : (valid : S → Type 0) (m : Meaning P T R E A S) → MeansOne valid m → MeansOne (λ (s : TurnsState V S). valid (running_turn s)) (repeated step errors b c m)
   repeated_means_one valid m h = turns_means_one step errors b no_value_ends c (none_yet c.none) valid m (from_start m) (plain_once h)
 
+  -- goal: returns-clause-same
   pub repeated_means_same : (m m' : Meaning P T R E A S) → MeansSame m m' → MeansSame {State = TurnsState V S} (repeated step errors b c m) (repeated step errors b c m')
   repeated_means_same m m' h = turns_means_same step errors b no_value_ends c (none_yet c.none) m m' (from_start m) (from_start m') (plain_same h)

@@ -255,6 +255,7 @@ module _ {P T A V Mark : Type 0} (step : P → T → P) (rule : Rule A Mark) (hr
       by_last (Refused j) d e = absurd (cc)
       by_last Undecided d e = absurd (cc)
 
+  -- goal: laws
   pub turned_is_reading : IsReading (TurnsOutcome step rule c turn running s)
   turned_is_reading = record {
     ended = turned_ended;
@@ -274,6 +275,7 @@ module _ {P T A V Mark : Type 0} (step : P → T → P) (rule : Rule A Mark) (c 
       let z = d.any_same in
       cc
 
+  -- goal: single
   pub turned_is_single : IsSingle (TurnsOutcome step rule c turn running s)
   turned_is_single = record { one = turned_one }
 

@@ -403,6 +403,7 @@ module _ {P T R E A : Type 0} (step : P → T → P) (errors : Observers T R P E
   )
 
 module _ {P T R E A V S : Type 0} (step : P → T → P) (errors : Observers T R P E) (b : Bounds) (ending : A → Bool) (c : Collecting A V) (start : TurnsSoFar TurnIndex c.Held) where
+  -- goal: laws
   pub turns_is_meaning : (fresh valid : S → Type 0) (m : Meaning P T R E A S) (again : Start P T E A) → IsTurn fresh valid m again → IsMeaning (fresh_turns fresh) (λ s. valid (running_turn s)) (turns_from step errors b ending c start m again)
   turns_is_meaning fresh valid m again t =
       let h = t.meaning in
@@ -432,6 +433,9 @@ module _ {P T R E A V S : Type 0} (step : P → T → P) (errors : Observers T R
     rest = λ s k. turned_is_single step (bounded b ending) c (λ _. again.reads) (λ g. judged_once b ending again.reads g h.later) (m.rest (running_turn s)) (so_far_or start c.held s.earlier) (judged_once b ending (m.rest (running_turn s)) (so_far_or start c.held s.earlier).mark (h.rest (running_turn s) k));
   }
 
+  -- goal: returns-clause-same
+  -- goal: returns-in-CommitErr-clause-same
+  -- goal: returns-in-CommitOk-clause-same
   pub turns_means_same : (m m' : Meaning P T R E A S) (again again' : Start P T E A) → TurnsSame m again m' again' → MeansSame {State = TurnsState V S} (turns_from step errors b ending c start m again) (turns_from step errors b ending c start m' again')
   turns_means_same m m' again again' t = record {
     whole = λ v o. (there m.whole m'.whole (λ v o. (h.whole v o).0) start v o, back m.whole m'.whole (λ v o. (h.whole v o).1) start v o);

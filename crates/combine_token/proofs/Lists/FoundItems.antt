@@ -56,5 +56,6 @@ module _ {I A : Type 0} (steps : I → Option A → I → Type 0) where
     expects_all s t u old now h i = says_as e (Unit {0}) (Unit {0}) (λ l. l) (so_far h.items) (ExpectsEach steps s) (λ is k. record { last = t; end = u; items = h.items; yields = h.yields; none = i; each = k }) old now h.says
 
 -- a list that is known to end before 2 ^ 64 items ends
+-- goal: requires
 pub ends_always : {L I A : Type 0} (clones : L → L → Type 0) (makes : L → I → Type 0) (steps : I → Option A → I → Type 0) (list : L) (can_next : I → Type 0) (remaining : I → Count) → IsIterated clones makes steps list can_next remaining → EndsAlways clones makes steps list can_next remaining
 ends_always clones makes steps list can_next remaining h = record { ready = λ start b. let r = h.ready b.clone start b.is_clone b.made in (r.0, r.1) }

@@ -41,6 +41,7 @@ module _ {I A B : Type 0} (steps : I → Option A → I → Type 0) (v : A → B
 
 module _ {L I A B T : Type 0} (clones : L → L → Type 0) (makes : L → I → Type 0) (steps : I → Option A → I → Type 0) (list : L) (v : A → B) (ys : List B) (h : ListGives clones makes steps list v ys) (equals : A → T → Bool) (known : B → T → Bool) (read : (x : A) (t : T) → equals x t ≡ known (v x) t) where
   -- whether a token is among the items, by their list
+  -- goal: requires
   pub among_known : (t : T) (b : Bool) → among clones makes steps list equals t b → b ≡ list_any (λ y. known y t) ys
   among_known t b p = found_known steps v (λ x. equals x t) (λ y. known y t) (λ x. read x t) ys p.0 b (h.each p.1.clone p.0 p.1.is_clone p.1.made).runs p.2.is
 

@@ -87,6 +87,8 @@ module _ {P T R V S E : Type 0} (w : World P T S E) (errors : Observers T R P E)
         failures = λ s. f ∙ q.progress.failures s;
       }
 
+      -- goal: returns-clause-answers
+      -- goal: returns-in-Err-pass_list_items-clause-answers
       pub match_accepted : (infallible : Type 0) → (heapless → infallible) → (committed : Bool) → committed ≡ nat_lt 0 e → (result : ParseResult V E) → given.AcceptsList w.kind gives infallible committed result → Answers w m r result
       match_accepted infallible lend committed b result p = record { is = by_result result p.is }
         where
@@ -110,6 +112,7 @@ module _ {P T R V S E : Type 0} (w : World P T S E) (errors : Observers T R P E)
       left_beyond : Moves w.step mid r.new → Leaves w r
       left_beyond x = record { count = q.progress.count + 1 + x.count; taken = takes_more w.step (q.progress.count + 1) x.count r.old mid r.new one_more x.taken; state = d }
 
+      -- goal: returns-then-matched-gt0-clause-answers
       pub match_refused : (e : E) → true ≡ nat_lt 0 n → IsRefusalOrMemory w.kind w.heapless e → r.new ≡ mid → r.after ≡ middle → Answers w m r (CommitErr e)
       match_refused e b p i j = record { is = by_kind p.is }
         where
@@ -205,6 +208,7 @@ module _ {P T R V S E : Type 0} (w : World P T S E) (errors : Observers T R P E)
       failures = λ y. x.failures y ∙ q.progress.failures y;
     }
 
+    -- goal: returns-then-ends_open-clause-answers
     pub match_asks : (e : E) → w.kind e ≡ kinds.End → Answers w m r (CommitErr e)
     match_asks e k = record { is = rw k (open_end r.old.is_open asks.is_open asks) }
       where

@@ -42,11 +42,13 @@ module _ {L I A B : Type 0} (clones : L → L → Type 0) (makes : L → I → T
   place_of k x s = slice_get_within ys k (v x) (item_of k x s)
 
   -- a call may be made with such a list
+  -- goal: requires
   pub is_iterated : (can_next : I → Type 0) (remaining : I → Count) → ((clone : L) (start : I) → clones list clone → makes clone start → can_next start × IsFinite (remaining start) × (size (remaining start) < 2 ^ 64)) → IsIterated clones makes steps list can_next remaining
   is_iterated can_next remaining r = record { ready = r; same = λ k m x s e. let a = place_of k x s in let b = end_of m e in omega arith }
 
   module _ {T : Type 0} (compares : A → T → Bool → Type 0) (known : B → T → Bool → Type 0) (read : (x : A) (t : T) (b : Bool) → compares x t b → known (v x) t b) where
     -- facts about the list are facts about its items
+    -- goal: requires
     pub iterated_within : IsListWithin (iterated_tokens clones makes steps list compares) (listed_tokens known ys)
     iterated_within = record {
       fits = λ n t b p. (v p.0, item_of n p.0 p.1, read p.0 t b p.2);

@@ -56,6 +56,7 @@ module _ {P T R V S E : Type 0} (w : World P T S E) (s : Observers T R P E) (l :
     stopped : mismatch_at l n now.is_open now.unread
     stopped = stops_at_token l gives n now.is_open now.unread mid.unread t k.unread f
 
+    -- goal: returns-then-matched-gt0-clause-refuses
     pub mismatch_reasons : (e : E) → true ≡ nat_lt 0 n → Mismatch s old.position t expected e → Reasoned {V = V} s.kind new.is_open says (CommitErr e)
     mismatch_reasons e b m = reasons_committed s.kind new.is_open says e (λ i. refused_there true e stopped b (λ x. absurd (cc)) (rw k.unread m))
 

@@ -80,6 +80,7 @@ module _ {P T R V S E : Type 0} (w : World P T S E) (errors : Observers T R P E)
   arrived_first false state n v f e = rw e (record { progress = progress_here w (matching l gives (matched state)) (matching l gives (matched state)) v f (λ v o p. p); place = omega arith; fit = none_matched l (matched state) v.unread })
 
   -- and continues at a token that fits
+  -- goal: items-preserved
   pub arrived_next : (h : ListEndsOnce l) (first : Bool) (state : S) (n : ℕ) (u v x : View P T) (f g i : Failures) → Arrived w errors l expected gives matched heapless adds first state n u v f g → (t : T) → l.fits n t true → l.has n → TakesToken w.counts_failures w.step v x g i t → Arrived w errors l expected gives matched heapless adds first state (n + 1) u x f i
   arrived_next h first state n u v x f g i p t a b k = record {
     place = let e = p.place in omega arith;

@@ -31,6 +31,7 @@ module _ {L A : Type 0} (clones : L → L → Type 0) (makes : L → Iter A → 
   pub slice_lists : ListGives clones makes iter_steps list (λ x. x.now) xs
   slice_lists = record { each = λ clone start i j. YieldsList-from_slice xs (begins clone start i j) }
 
+  -- goal: check-requires
   pub slice_is_iterated : length xs < 2 ^ 64 → IsIterated clones makes iter_steps list (λ s. Unit {0}) (λ s. at_most (length (iter_rest s)))
   slice_is_iterated d = is_iterated clones makes iter_steps list (λ x. x.now) xs slice_lists (λ s. Unit {0}) (λ s. at_most (length (iter_rest s))) (λ clone start i j. (tt, tt, rw (begins clone start i j) d))
 
@@ -43,6 +44,9 @@ module _ {L A : Type 0} (n : ℕ) (clones : L → L → Type 0) (makes : L → I
   pub array_lists : ListGives clones makes array_steps list (λ x. x) xs
   array_lists = rest_lists array_steps array_into_iter_items (λ x. x) (λ s t x k. k) (λ s t k. nil_from_length _ k.0) clones makes list xs begins
 
+  -- goal: keeps_and_asks-requires-2-clause-lawful
+  -- goal: keeps_and_asks-requires-clause-lawful
+  -- goal: parse_pieces-requires
   pub array_is_iterated : length xs < 2 ^ 64 → IsIterated clones makes array_steps list (λ s. Unit {0}) (λ s. at_most (length (array_into_iter_items s)))
   array_is_iterated d = is_iterated clones makes array_steps list (λ x. x) xs array_lists (λ s. Unit {0}) (λ s. at_most (length (array_into_iter_items s))) (λ clone start i j. (tt, tt, rw (begins clone start i j) d))
 
@@ -51,6 +55,7 @@ module _ {L : Type 0} (clones : L → L → Type 0) (makes : L → Chars → Typ
   pub chars_lists : ListGives clones makes chars_steps list (λ c. c) (chars bs)
   chars_lists = record { each = λ clone start i j. YieldsList-from_chars bs text (begins clone start i j) }
 
+  -- goal: requires
   pub chars_is_iterated : length bs < 2 ^ 64 → IsIterated clones makes chars_steps list (λ s. Unit {0}) (λ s. at_most (length (chars_rest s)))
   chars_is_iterated d = is_iterated clones makes chars_steps list (λ c. c) (chars bs) chars_lists (λ s. Unit {0}) (λ s. at_most (length (chars_rest s))) (λ clone start i j. (tt, tt, rw (begins clone start i j) d))
 

@@ -83,10 +83,12 @@ module _ {T B : Type 0} (f g : Option T → Option B → Type 0) (h : (i : Optio
 
 module _ {P T R B S E : Type 0} (w : World P T S E) (errors : Observers T R P E) (f g : Option T → Option B → Type 0) (heapless : Type 0) (adds : List (ErrorItem T R) → Type 0) (r : CallRecord P T S) (s : w.fresh r.left) where
   -- a parser that makes such a call, under a test whose results its own allows
+  -- goal: returns-clause-answers
   pub takes : (result : ParseResult B E) → ReadsToken w f r.old r.new r.before r.after result → ((i : Option T) (o : Option B) → f i o → g i o) → Answers w (takes_one errors g heapless adds) r result
   takes result h i = answers_too w (one_token f) (one_token g) (allows f g i) (Unit {0}) (Unit {0}) heapless (AddsNothing {R = Unit {0}}) adds never_refused (RefusesToken errors) (λ l. tt) r result (h.answers r.first r.state r.left s)
 
 -- a call under one test, made by one under another whose results the first allows
+-- goal: returns-clause-reads
 pub reads_under : {P T B S E : Type 0} (w : World P T S E) (f g : Option T → Option B → Type 0) (old new : View P T) (before after : Failures) (result : ParseResult B E) → ReadsToken w f old new before after result → ((i : Option T) (o : Option B) → f i o → g i o) → ReadsToken w g old new before after result
 reads_under w f g old new before after result h i = record { answers = λ first state left s. answers_too w (one_token f) (one_token g) (allows f g i) (Unit {0}) (Unit {0}) (Unit {0}) (AddsNothing {R = Unit {0}}) (AddsNothing {R = Unit {0}}) never_refused never_refused (λ l. l) _ result (h.answers first state left s) }
 
@@ -105,5 +107,6 @@ holds_too p q h t (Some u) s = (s.0, h t true s.1)
 
 module _ {P T R S E : Type 0} (w : World P T S E) (errors : Observers T R P E) (p q : T → Bool → Type 0) (heapless : Type 0) (adds : List (ErrorItem T R) → Type 0) (r : CallRecord P T S) (s : w.fresh r.left) where
   -- the same of a parser that makes a call under a predicate
+  -- goal: returns-clause-answers
   pub takes_if : (result : ParseResult T E) → ReadsTokenIf w p r.old r.new r.before r.after result → ((t : T) (b : Bool) → p t b → q t b) → Answers w (takes_one errors (satisfied q) heapless adds) r result
   takes_if result h i = takes w errors (satisfied p) (satisfied q) heapless adds r s result h.reads (of_token_too (holds p) (holds q) (holds_too p q i))

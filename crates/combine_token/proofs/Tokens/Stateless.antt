@@ -30,6 +30,7 @@ module _ {P T R A S E : Type 0} (read : Reading P T A) (keeps heapless : Type 0)
 
 module _ {P T R A S E : Type 0} (w : World P T S E) (read : Reading P T A) (keeps heapless : Type 0) (adds : List (ErrorItem T R) → Type 0) (refuses : Refusing P T E) (r : CallRecord P T S) where
   -- need of more, with nothing taken
+  -- goal: clause-answers
   pub stateless_asks : r.old.is_open ≡ true → read r.old Undecided → (keeps → r.old.unread ≡ []) → r.new ≡ r.old → (w.counts_failures → r.after ≡ r.before) → Asks w (stateless read keeps heapless adds refuses) r
   stateless_asks i p k e f = record {
     is_open = i;

@@ -19,10 +19,12 @@ use Rattle.combine_base.proofs.Errors.CallReasons.{reasons_fault, reasons_peeked
 
 module _ {P T R B E : Type 0} (s : Observers T R P E) (old new : View P T) where
   -- a token was read and put back
+  -- goal: returns-in-Ok-reset-clause-refuses
   pub refused_token : (t : T) (us : List T) → old.unread ≡ t ∷ us → (x : Tracked E) → New s kinds.Refused old.position x.error → new ≡ old → Reasoned {V = B} s.kind new.is_open (RefusesToken s old new) (PeekErr x)
   refused_token t us i x n b = reasons_peeked s.kind new.is_open (RefusesToken s old new) x (record { is = rw i n; back = b })
 
   -- the end was found
+  -- goal: returns-in-None-test-clause-refuses
   pub refused_end : old.unread ≡ [] → new ≡ old → (result : ParseResult B E) → NoToken s.kind s.heapless new.is_open kinds.End result → SaysEnd s old.position result → Reasoned s.kind new.is_open (RefusesToken s old new) result
   refused_end i b (CommitOk v) h k = absurd h.is
   refused_end i b (PeekOk v) h k = absurd h.is

@@ -7,6 +7,7 @@ use Rattle.combine_token.specs.Token.Together.{Together}
 
 module _ {T R P E : Type 0} (s : Observers T R P E) where
   -- the added items satisfy a weaker relation
+  -- goal: returns-in-Ok-clause-says
   pub says_as : (heapless heapless' : Type 0) → (heapless' → heapless) → (f g : List (ErrorItem T R) → Type 0) → ((is : List (ErrorItem T R)) → f is → g is) → (e e' : E) → AddsItems s heapless f e e' → AddsItems s heapless' g e e'
   says_as heapless heapless' lend f g into e e' a = record { is = by_case a.is }
     where
@@ -19,6 +20,7 @@ module _ {T R P E : Type 0} (s : Observers T R P E) where
   says_unstored heapless f e e' k p n = record { is = inr (record { kind = k; position = p; memory = λ h l. n l }) }
 
 module _ {T R P E : Type 0} {s : Observers T R P E} {heapless heapless' : Type 0} {f g : List (ErrorItem T R) → Type 0} {e e' e'' : E} where
+  -- goal: returns-clause-says
   pub says_together : AddsItems s heapless f e e' → AddsItems s heapless' g e' e'' → AddsItems s (heapless × heapless') (Together f g) e e''
   says_together a b = record { is = both a.is b.is }
     where
