@@ -1,7 +1,7 @@
 //! How users of combine run a parser: on the whole input, and on pieces with a kept state.
 //!
-//! Over pieces each window is a slice of the one buffer, from the first byte not taken: no byte is copied, so what is
-//! measured is the parsing alone.
+//! Over pieces each window is a slice of the one buffer, from the first byte not taken: no byte is copied, so only the
+//! parsing is measured.
 
 use crate::measure::REFUSED;
 use combine::error::UnexpectedParse;
@@ -11,7 +11,7 @@ use std::io::{self, Read};
 
 pub type Window<'a> = MaybePartialStream<&'a [u8]>;
 
-/// How many bytes a parser takes, the whole input at once (`size` 0) or in pieces; `REFUSED` where it refuses.
+/// Returns how many bytes a parser takes, the whole input at once (`size` 0) or in pieces; `REFUSED` if it refuses.
 pub fn taken<'a>(
     whole: impl Parser<&'a [u8]>,
     resumable: impl Parser<Window<'a>>,
@@ -26,13 +26,13 @@ pub fn taken<'a>(
     taken.map_or(REFUSED, |taken| taken as u64)
 }
 
-/// The value and how many bytes it took.
+/// Returns the value and how many bytes the parser took.
 pub fn whole<'a, P: Parser<&'a [u8]>>(mut parser: P, bytes: &'a [u8]) -> Option<(P::Output, usize)> {
     let (value, rest) = parser.parse(bytes).ok()?;
     Some((value, bytes.len() - rest.len()))
 }
 
-/// The same, fed in pieces of `size` bytes and then the end.
+/// Does the same, fed pieces of `size` bytes and then the end.
 pub fn pieces<'a, P: Parser<Window<'a>>>(mut parser: P, bytes: &'a [u8], size: usize) -> Option<(P::Output, usize)> {
     let mut state = P::PartialState::default();
     let (mut taken, mut fed) = (0, 0);
@@ -50,7 +50,7 @@ pub fn pieces<'a, P: Parser<Window<'a>>>(mut parser: P, bytes: &'a [u8], size: u
     }
 }
 
-/// The values of one message after the other, fed in pieces of `size` bytes; the number of bytes that they took.
+/// Passes the value of each message to `see`, fed pieces of `size` bytes; returns how many bytes they took.
 pub fn each<'a, P: Parser<PartialStream<&'a [u8]>>>(
     mut parser: P,
     bytes: &'a [u8],
@@ -78,7 +78,7 @@ pub fn each<'a, P: Parser<PartialStream<&'a [u8]>>>(
     Some(taken)
 }
 
-/// As `each`, the values of a piece gathered, and then handed on together.
+/// Does as `each`, but collects the values of a piece and passes them on together.
 pub fn each_by_piece<'a, P: Parser<PartialStream<&'a [u8]>>>(
     mut parser: P,
     bytes: &'a [u8],
@@ -108,7 +108,7 @@ pub fn each_by_piece<'a, P: Parser<PartialStream<&'a [u8]>>>(
     Some(taken)
 }
 
-/// Gives the bytes in pieces of that size.
+/// A reader of bytes in pieces of one size.
 pub struct Reader<'a> {
     pub rest: &'a [u8],
     pub size: usize,
@@ -124,8 +124,8 @@ impl Read for Reader<'_> {
     }
 }
 
-/// Whether the bytes are messages of the parser, one after another, each handed on: by the crate's `Decoder`, whose
-/// buffer asks the reader for 64 bytes at a time, or fewer.
+/// Passes each message of the parser to `see`, by the crate's `Decoder`, whose buffer reads at most 64 bytes at a time;
+/// returns whether the bytes are messages, one after another.
 #[macro_export]
 macro_rules! decodes_all {
     ($parser: expr, $bytes: expr, $size: expr, $see: expr) => {{
@@ -144,7 +144,7 @@ macro_rules! decodes_all {
     }};
 }
 
-/// These bytes, one by one.
+/// Parses these bytes, one by one.
 pub fn exactly<I: Stream<Token = u8>>(text: &'static [u8]) -> impl Parser<I, Output = ()>
 where
     I::Error: combine::error::ParseError<u8, I::Range, I::Position>,

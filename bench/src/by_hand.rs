@@ -3,18 +3,18 @@
 use crate::classes::{is_digit, is_lower, past};
 use crate::measure::REFUSED;
 
-/// How a slice begins.
+/// The beginning of a slice.
 enum Begins<'a> {
     Message {
         word: &'a [u8],
         digits: Option<&'a [u8]>,
         length: usize,
     },
-    /// With what may become a message.
+    /// The beginning of a message, as far as it goes.
     Short,
-    /// With no message.
+    /// No message.
     Other,
-    /// With what began as a message, and is none.
+    /// A broken message.
     Broken,
 }
 
@@ -51,7 +51,7 @@ fn begins(bytes: &[u8]) -> Begins<'_> {
     Begins::Message { word, digits, length: end + 1 }
 }
 
-/// The messages that the bytes begin with, in turn, and how many bytes they take; none where one is broken.
+/// Passes the messages that the bytes begin with to `see`; returns how many bytes they take, `None` if one is broken.
 #[inline(always)]
 pub fn messages(bytes: &[u8], mut see: impl FnMut(&[u8], Option<&[u8]>)) -> Option<usize> {
     let mut at = 0;
@@ -68,7 +68,7 @@ pub fn messages(bytes: &[u8], mut see: impl FnMut(&[u8], Option<&[u8]>)) -> Opti
     }
 }
 
-/// The same, fed in pieces: what stands before the `;` of a message is kept till that comes.
+/// Does the same, fed in pieces: a message that a cut divides is kept until its `;` comes.
 #[inline(always)]
 pub fn messages_in_pieces(bytes: &[u8], size: usize, mut see: impl FnMut(&[u8], Option<&[u8]>)) -> Option<usize> {
     let mut kept: Vec<u8> = Vec::new();
@@ -110,7 +110,8 @@ pub fn messages_in_pieces(bytes: &[u8], size: usize, mut see: impl FnMut(&[u8], 
     }
 }
 
-/// How many bytes of a letter and a digit in turn there are, in blocks of N bytes; refused within a block.
+/// Returns how many bytes there are of a letter and a digit by turns, in blocks of N bytes; `REFUSED` if they end
+/// within a block.
 #[inline(always)]
 pub fn cycles<const N: usize>(bytes: &[u8], piece: usize) -> u64 {
     let piece = if piece == 0 { bytes.len().max(1) } else { piece };
@@ -158,7 +159,7 @@ fn fits(place: usize, byte: u8) -> bool {
     }
 }
 
-/// What follows some letters and the byte behind them, if it is that one.
+/// Returns the rest after some letters and the byte `behind`; `None` if that byte doesn't follow them.
 #[inline(always)]
 pub fn behind_word(mut rest: &[u8], behind: u8) -> Option<&[u8]> {
     while let [byte, tail @ ..] = rest {

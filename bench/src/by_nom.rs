@@ -4,7 +4,7 @@ use crate::measure::REFUSED;
 use nom::multi::fold_many0;
 use nom::IResult;
 
-/// How many bytes the items in turn take, the whole input at once (`size` 0) or in pieces; `REFUSED` where one fails.
+/// Returns how many bytes the items take, the whole input at once (`size` 0) or in pieces; `REFUSED` if one fails.
 pub fn taken<'a, T>(
     complete: impl Fn(&'a [u8]) -> IResult<&'a [u8], T>,
     streaming: impl Fn(&'a [u8]) -> IResult<&'a [u8], T>,
@@ -19,7 +19,7 @@ pub fn taken<'a, T>(
     taken.map_or(REFUSED, |taken| taken as u64)
 }
 
-/// The values of one item after the other, fed in pieces of `size` bytes; the number of bytes that they took.
+/// Passes the value of each item to `see`, fed pieces of `size` bytes; returns how many bytes they took.
 pub fn each<'a, T>(
     item: impl Fn(&'a [u8]) -> IResult<&'a [u8], T>,
     bytes: &'a [u8],
@@ -43,8 +43,8 @@ pub fn each<'a, T>(
     Some(taken)
 }
 
-/// The values of a first item and of each next one, which begins with a separator; the number of bytes that they took.
-/// A streaming `next` that met the end of all pieces is finished by the complete one.
+/// Passes the values of a first item and of each next one, which begins with a separator, to `see`; returns how many
+/// bytes they took. A streaming `next` that met the end of all pieces is finished by the complete one.
 pub fn separated<'a, T>(
     first: impl Fn(&'a [u8]) -> IResult<&'a [u8], T>,
     next: impl Fn(&'a [u8]) -> IResult<&'a [u8], T>,

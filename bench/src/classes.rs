@@ -1,4 +1,4 @@
-//! Classes of bytes, and the runs of them that begin a slice.
+//! Classes of bytes, and the length of a run of one at the beginning of a slice.
 
 pub fn is_lower(byte: u8) -> bool {
     byte.is_ascii_lowercase()
@@ -8,7 +8,7 @@ pub fn is_digit(byte: u8) -> bool {
     byte.is_ascii_digit()
 }
 
-/// Where the bytes from `at` on stop being of a class.
+/// Returns where the bytes of a class from `at` on end.
 #[inline(always)]
 pub fn past(bytes: &[u8], mut at: usize, is_in: impl Fn(u8) -> bool) -> usize {
     while at < bytes.len() && is_in(bytes[at]) {

@@ -1,18 +1,18 @@
-//! A grammar of ten rules, evaluated: what two measures share. All numbers are of 64 bits, and wrap.
+//! A grammar of ten rules, evaluated, which two measures share. All numbers have 64 bits, and wrap.
 //!
 //!     name    = letter letter ..          worth its tally
-//!     number  = digit digit ..            worth what it spells
+//!     number  = digit digit ..            worth its number
 //!     text    = '"' byte .. '"'           worth its tally
 //!     list    = '[' number ',' .. ']'     worth its tally
 //!     literal = number | text | list
-//!     group   = '(' simple '+' .. ')'     worth the sum, a simple operand being a literal or a name
-//!     product = operand '*' ..            worth the product, an operand being a literal, a group or a name
+//!     group   = '(' simple '+' .. ')'     worth the sum; a simple operand is a literal or a name
+//!     product = operand '*' ..            worth the product; an operand is a literal, a group or a name
 //!     sum     = product '+' ..            worth the sum
 //!     binding = "let " name '=' sum ';'   worth the tally of both values
-//!     call    = name '(' sum ',' .. ')' ';'   worth the tally of the name's value and of that of the sums
+//!     call    = name '(' sum ',' .. ')' ';'   worth the tally of the name's value and the sums' tally
 //!
-//! A program is bindings and calls, worth their tally. A tally is 0, and with each item 31 times what it was, plus the
-//! item.
+//! A program is bindings and calls, worth their tally. A tally begins with 0; each item makes it 31 times itself plus
+//! the item.
 
 use crate::classes::{is_digit, is_lower};
 use crate::measure::REFUSED;
@@ -22,7 +22,7 @@ use combine::{attempt, between, choice, many, many1, satisfy, sep_by, sep_by1, t
 
 macro_rules! folded {
     ($name:ident, $first:expr, $item:ty, |$so_far:ident, $next:ident| $more:expr) => {
-        /// What a repetition collects in.
+        /// The collection of a repetition.
         struct $name(u64);
 
         impl Default for $name {
@@ -91,7 +91,7 @@ rules! {
     program = many(binding().or(call())).map(|it: Tally| it.0);
 }
 
-/// What the program is worth that the bytes begin with, by a descent that is written out.
+/// Returns the worth of the program that the bytes begin with, by recursive descent.
 pub fn hand(bytes: &[u8], _piece: usize) -> u64 {
     let mut rest = bytes;
     let mut tally = 0;
@@ -107,13 +107,13 @@ pub fn hand(bytes: &[u8], _piece: usize) -> u64 {
 /// What a slice begins with.
 enum Found {
     Value(u64),
-    /// Nothing of that rule.
+    /// No item of the rule.
     Other,
-    /// What began as that rule, and isn't of it.
+    /// A broken item of the rule.
     Broken,
 }
 
-/// The value of what was found; else the function ends, broken.
+/// The value of the item found; else the function returns `Broken`.
 macro_rules! within {
     ($found:expr) => {
         match $found {
@@ -123,7 +123,7 @@ macro_rules! within {
     };
 }
 
-/// Passes over a byte, if it stands there.
+/// Passes over this byte, if it comes next.
 #[inline(always)]
 fn takes(rest: &mut &[u8], byte: u8) -> bool {
     let found = rest.first() == Some(&byte);
@@ -159,7 +159,7 @@ fn closed(rest: &mut &[u8], value: u64) -> Found {
     }
 }
 
-/// The tally of items with `,` between them, and what closes them.
+/// Reads items with `,` between them, and their closing byte, to the items' tally.
 #[inline(always)]
 fn separated(rest: &mut &[u8], close: u8, item: impl Fn(&mut &[u8]) -> Found) -> Found {
     let mut tally = 0;
@@ -245,7 +245,7 @@ fn word(rest: &mut &[u8]) -> Found {
     folded(rest, is_lower, |tally, byte| with_item(tally, u64::from(byte)))
 }
 
-/// What the bytes of a class are folded to that stand there, if one does.
+/// Folds the bytes of a class that come next; there must be one.
 #[inline(always)]
 fn folded(rest: &mut &[u8], is_in: impl Fn(u8) -> bool, with: impl Fn(u64, u8) -> u64) -> Found {
     let before = rest.len();

@@ -1,4 +1,4 @@
-//! Inputs: the same bytes on each run, and the shorter input is how the longer one begins.
+//! Inputs: the same bytes on each run; a shorter input is the beginning of a longer one.
 
 pub mod json;
 
@@ -64,7 +64,7 @@ pub fn settings(size: usize) -> Vec<u8> {
     })
 }
 
-/// How many settings these are.
+/// Returns how many settings these are.
 pub fn count_settings(settings: &[u8]) -> usize {
     settings.iter().filter(|byte| **byte == b';').count()
 }
@@ -79,7 +79,7 @@ pub fn pairs(size: usize) -> Vec<u8> {
     })
 }
 
-/// Words of 1 to 8 letters, each with a `;` behind it.
+/// Words of 1 to 8 letters, a `;` after each.
 pub fn words(size: usize) -> Vec<u8> {
     repeated(size, |dice, all| {
         let letters = dice.between(1, 8);
@@ -88,7 +88,7 @@ pub fn words(size: usize) -> Vec<u8> {
     })
 }
 
-/// Lines of 1 to 6 words of 1 to 8 letters, a `,` behind each word and a `;` behind each line.
+/// Lines of 1 to 6 words of 1 to 8 letters, a `,` after each word and a `;` after each line.
 pub fn lines(size: usize) -> Vec<u8> {
     repeated(size, |dice, all| {
         for _ in 0..dice.between(1, 6) {
@@ -128,7 +128,7 @@ pub fn tagged(size: usize) -> Vec<u8> {
     })
 }
 
-/// Eight keywords, as they come.
+/// Keywords, each one of eight, at random.
 pub fn keywords(size: usize) -> Vec<u8> {
     repeated(size, |dice, all| {
         all.extend_from_slice(crate::keywords::KEYWORDS[dice.between(0, 7) as usize]);
@@ -151,7 +151,7 @@ pub fn greek(size: usize) -> Vec<u8> {
     })
 }
 
-/// Digits, one at least.
+/// Digits, at least one.
 pub fn digits(size: usize) -> Vec<u8> {
     repeated(size.max(1), |dice, all| dice.push(all, 1, b'0', b'9'))
 }
@@ -202,7 +202,7 @@ pub fn marked(size: usize) -> Vec<u8> {
     })
 }
 
-/// Lines of so many bytes, the `\r\n` behind their letters among them.
+/// Lines of so many bytes, the `\r\n` after their letters included.
 fn lines_of(length: u64, size: usize) -> Vec<u8> {
     repeated(size, |dice, all| {
         dice.push(all, length - 2, b'a', b'z');
@@ -230,7 +230,7 @@ pub fn prefixed(size: usize) -> Vec<u8> {
     })
 }
 
-/// How many such frames these are.
+/// Returns how many such frames these are.
 pub fn count_prefixed(frames: &[u8]) -> usize {
     frames.len() / 64
 }

@@ -1,7 +1,6 @@
-//! What the measures of JSON share: what a document is, what it comes to, and the sides that read it.
+//! Documents of JSON, their checksum, and the sides that read them, which the measures of JSON share.
 //!
-//! A number is kept as it is written, and the entries of an object in their order, repeated names among them, since ours
-//! keeps them so.
+//! As on our side, a number is kept as it is written, and an object's entries in their order, repeated names included.
 
 pub mod by_combine;
 pub mod by_hand;
@@ -10,8 +9,8 @@ mod text;
 
 use crate::measure::{Call, REFUSED};
 
-/// How many arrays and objects may be open inside one another, by hand as on our side; combine's and nom's readers call
-/// themselves, and set no limit.
+/// How many arrays and objects may be open inside one another, by hand as on our side; combine's and nom's readers
+/// recurse, without a limit.
 const DEPTH: usize = 128;
 
 /// The sides, whole and in pieces. nom's reader of a document that is cut would begin it anew with each piece.
@@ -28,7 +27,7 @@ pub enum Value {
     Object(Vec<(String, Value)>),
 }
 
-/// What a document comes to; `REFUSED` where there is none.
+/// Returns a document's checksum; `REFUSED` if there is none.
 pub fn answer(document: Option<Value>) -> u64 {
     let Some(document) = document else { return REFUSED };
     let mut tally = Tally { sum: 0 };
@@ -36,13 +35,13 @@ pub fn answer(document: Option<Value>) -> u64 {
     tally.sum
 }
 
-/// From 0, for each part in its order 31 times the sum, plus what kind of part it is, plus the number and the sum of its
+/// From 0, for each part in order 31 times the sum, plus the kind of the part, plus the number and the sum of its
 /// bytes; all wrapping.
 struct Tally {
     sum: u64,
 }
 
-/// What the bytes of a number or a text come to.
+/// Returns the checksum of the bytes of a number or a text.
 fn weight(bytes: &[u8]) -> u64 {
     bytes.iter().fold(bytes.len() as u64, |sum, byte| sum.wrapping_add(u64::from(*byte)))
 }

@@ -1,4 +1,4 @@
-//! Eight keywords, chosen by their first letters: what the measures of choices share.
+//! Eight keywords, chosen by their first letters, which the measures of choices share.
 
 use crate::measure::REFUSED;
 use crate::{by_combine, by_nom};
@@ -7,7 +7,7 @@ use combine::{attempt, choice, skip_many, Parser};
 
 pub const KEYWORDS: [&[u8]; 8] = [b"if", b"else", b"for", b"let", b"match", b"return", b"struct", b"while"];
 
-/// How many bytes the keywords take that stand at the beginning, one behind the other; one may stand in several pieces.
+/// Returns how many bytes the keywords at the beginning take, one after another; a cut may divide one.
 pub fn hand(bytes: &[u8], piece: usize) -> u64 {
     let (mut taken, mut whole, mut rest_of_word) = (0, 0, &b""[..]);
     for piece in bytes.chunks(if piece == 0 { bytes.len().max(1) } else { piece }) {
@@ -44,8 +44,8 @@ fn keyword(first: u8) -> &'static [u8] {
     }
 }
 
-/// Over pieces, whatever the form of the choice: its alternatives read ranges, which the crate puts back whole. Of tokens
-/// that were taken it loses the place over a cut, and a choice over an array or a slice stays with its first alternative.
+/// Parses pieces, whatever the form of the choice: its alternatives read ranges, which the crate puts back whole. Of
+/// taken tokens it loses the place over a cut, and a choice over an array or a slice keeps to its first alternative.
 pub fn combine_in_pieces(bytes: &[u8], piece: usize) -> u64 {
     let one = |at: usize| attempt(range(KEYWORDS[at]));
     let chosen = skip_many(choice((one(0), one(1), one(2), one(3), one(4), one(5), one(6), one(7))));
@@ -66,7 +66,7 @@ crate::both_forms! {
     }
 }
 
-/// One of them, token by token.
+/// Parses one of them, token by token.
 pub fn keyword_at<'a>(at: usize) -> impl Parser<&'a [u8], Output = ()> {
     attempt(by_combine::exactly(KEYWORDS[at]))
 }

@@ -1,4 +1,4 @@
-//! Lines that are found by a search for `\r\n`: the other sides of three measures.
+//! Lines found by a search for `\r\n`: the sides except ours of three measures.
 
 use crate::by_combine;
 use crate::measure::REFUSED;

@@ -1,12 +1,12 @@
 //! The same work by Calicocrag, combine, nom and loops by hand.
 //!
 //!     bench names                               each measure: its name, piece sizes and what it measures
-//!     bench check                               each side answers the same on short inputs, in pieces of many sizes
+//!     bench check                               each side returns the same on short inputs, in pieces of many sizes
 //!     bench time NAME PIECE BYTES RUNS          the best of so many runs of each side, in seconds
 //!     bench count NAME PIECE BYTES SIDE         one run of one side, in the function `counted`
 //!     bench ours                                what the linked static library exports
 //!     bench sides NAME PIECE                    the sides that a measure has in pieces of that size
-//!     bench messages NAME BYTES                 how many messages stand in the input of a measure that decodes them
+//!     bench messages NAME BYTES                 how many messages are in the input of a measure that decodes them
 mod by_combine;
 mod by_hand;
 mod by_nom;
@@ -26,9 +26,9 @@ use measure::{Call, Measure, FAULT, REFUSED};
 use std::hint::black_box;
 use std::time::Instant;
 
-/// The sides of a measure that can be fed pieces of this size; ours comes last, if it is there.
+/// Returns the sides of a measure that can be fed pieces of this size; ours comes last, if it exists.
 ///
-/// Other forms of a crate's work are for pieces alone, but for `NAME whole`, which is shown as `NAME`.
+/// Other forms of a crate's work are for pieces alone, except `NAME whole`, which is shown as `NAME`.
 fn sides(measure: &Measure, piece: usize) -> Vec<(&'static str, Call)> {
     let shown = |(name, call): &(&'static str, Call)| match name.split_once(' ') {
         Some((crate_name, "whole")) => (piece == 0).then_some((crate_name, *call)),
@@ -94,7 +94,7 @@ fn list_sides(name: &str, piece: &str) -> Result<(), String> {
     Ok(())
 }
 
-/// A line with the number of messages and the bytes of the input.
+/// Prints a line with the number of messages and of the bytes of the input.
 fn messages(name: &str, bytes: &str) -> Result<(), String> {
     let input = (find(name)?.input)(number(bytes)?);
     let count = match name {
@@ -106,7 +106,7 @@ fn messages(name: &str, bytes: &str) -> Result<(), String> {
     Ok(())
 }
 
-/// Each side on inputs of up to some thousand bytes, whole and in pieces; all are accepted.
+/// Runs each side on inputs of up to some thousand bytes, whole and in pieces; all are accepted.
 fn check() -> Result<(), String> {
     let pieces = [0, 1, 2, 3, 5, 7, 16, 64, 255, 1000, 4096];
     for measure in measures::ALL {
@@ -141,7 +141,7 @@ fn shown(answer: u64) -> String {
     }
 }
 
-/// One line for each side: its name, the best time in seconds, the bytes of the input.
+/// Prints a line for each side: its name, the best time in seconds, the bytes of the input.
 fn time(name: &str, piece: &str, bytes: &str, runs: &str) -> Result<(), String> {
     let (measure, piece, bytes, runs) = (find(name)?, number(piece)?, number(bytes)?, number(runs)?);
     let input = (measure.input)(bytes);
@@ -164,7 +164,7 @@ fn time(name: &str, piece: &str, bytes: &str, runs: &str) -> Result<(), String> 
     Ok(())
 }
 
-/// What callgrind counts: it is told to collect within this function alone.
+/// The run that callgrind counts: it collects within this function alone.
 #[no_mangle]
 #[inline(never)]
 pub extern "Rust" fn counted(call: Call, bytes: &[u8], piece: usize) -> u64 {

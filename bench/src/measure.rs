@@ -1,14 +1,14 @@
-//! What a measure is.
+//! A measure, its sides and the sizes of its pieces.
 
-/// What stands for a refused input.
+/// The result for a refused input.
 pub const REFUSED: u64 = u64::MAX;
 
-/// What the calls of ours answer where they met a fault, as want of memory.
+/// The result of our calls on a fault, as out of memory.
 pub const FAULT: u64 = u64::MAX - 1;
 
-/// One side of a measure: parses the bytes, and answers a checksum, or `REFUSED`.
+/// One side of a measure: parses the bytes and returns a checksum, or `REFUSED`.
 ///
-/// The second argument is the size of the pieces that the bytes are fed in; 0 is for the whole input at once.
+/// The second argument is the size of the pieces that are fed; 0 is for the whole input at once.
 pub type Call = fn(&[u8], usize) -> u64;
 
 /// The same work on each side.
@@ -17,11 +17,11 @@ pub struct Measure {
     pub name: &'static str,
     /// What is measured, in a line.
     pub what: &'static str,
-    /// Makes at least so many bytes, the same ones each time.
+    /// Makes at least so many bytes, the same each time.
     pub input: fn(usize) -> Vec<u8>,
-    /// The sizes of pieces that are shown of it.
+    /// The sizes of pieces that its results show.
     pub pieces: &'static [usize],
-    /// The sides but ours, by name; the first is the loop by hand.
+    /// The sides except ours, by name; the first is the loop by hand.
     /// A name may begin with that of its crate, as `combine by message`: another form of the same work,
     /// for pieces alone; `nom whole` is nom's form for whole inputs alone.
     pub sides: &'static [(&'static str, Call)],
@@ -30,7 +30,7 @@ pub struct Measure {
 /// The sizes of pieces that messages are decoded from: some bytes, a packet, a page, a buffer.
 pub const DECODED: &[usize] = &[16, 1460, 4096, 65536];
 
-/// The size of the pieces, in which all bytes are one where it is 0.
+/// Returns the size of the pieces; 0 is for one piece of all bytes.
 pub fn size_of(bytes: &[u8], piece: usize) -> usize {
     if piece == 0 {
         bytes.len().max(1)

@@ -1,4 +1,4 @@
-//! What decoded and collected messages are summed up in.
+//! A checksum of decoded and collected messages.
 
 /// From 0, for each kept vector 31 times the sum, plus its length, plus its last byte; all wrapping.
 #[derive(Default)]

@@ -1,4 +1,4 @@
-//! Characters of text: what measures over `&str` share. A text that isn't UTF-8 is refused.
+//! Characters of text, which measures over `&str` share. A text that isn't UTF-8 is refused.
 
 use crate::measure::REFUSED;
 use combine::parser::char::letter;
@@ -8,7 +8,7 @@ fn text(bytes: &[u8]) -> Option<&str> {
     std::str::from_utf8(bytes).ok()
 }
 
-/// How many bytes the letters take that the text begins with.
+/// Returns how many bytes the letters at the beginning of the text take.
 pub fn letters_by_hand(bytes: &[u8], _piece: usize) -> u64 {
     let Some(text) = text(bytes) else { return REFUSED };
     let rest = text.trim_start_matches(char::is_alphabetic);

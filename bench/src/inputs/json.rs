@@ -2,7 +2,7 @@
 
 use super::{repeated, Dice};
 
-/// How deep the elements of `deep` nest, at most; the array around them is one more.
+/// How deep the elements of `deep` nest at most; the array around them is one more.
 const DEPTH: u64 = 100;
 
 /// An array of such elements.
@@ -89,7 +89,7 @@ fn push_text(dice: &mut Dice, all: &mut Vec<u8>, count: u64) {
     all.push(b'"');
 }
 
-/// Arrays and objects, 60 to 100 inside one another; some arrays have a number before what nests.
+/// Arrays and objects, 60 to 100 inside one another; some arrays have a number before the nested one.
 pub fn deep(size: usize) -> Vec<u8> {
     document(size, |dice, all| {
         let mut ends = Vec::new();

@@ -1,8 +1,8 @@
-//! A reader as combine's users write it, modelled on the crate's own of JSON: rules over any stream of bytes, of which
-//! that of a value calls itself.
+//! A reader as combine's users write it, after the crate's own of JSON: rules over any stream of bytes, of which a
+//! value's calls itself.
 //!
-//! The rules stand twice: in `whole` their states have the types that they come with, in `pieces` each is `Any`, as the
-//! crate wants it of rules that call each other over pieces.
+//! Each rule is written twice: in `whole` its state has its own type, in `pieces` it is `Any`, as the crate requires of
+//! rules that call each other over pieces.
 
 use super::text::{escaped, hexadecimal, is_plain, Piece, Text};
 use super::{answer, Value};
@@ -108,10 +108,10 @@ macro_rules! rules {
 rules! {
     blanks() -> () = skip_many(satisfy(|byte| matches!(byte, b' ' | b'\t' | b'\n' | b'\r')));
 
-    /// A sign, and the blanks behind it.
+    /// A sign, and the blanks after it.
     sign(sign: u8) -> u8 = token(sign).skip(blanks());
 
-    /// The four digits behind `\u`.
+    /// The four digits after `\u`.
     unit() -> Piece<'static> = {
         let digit = || satisfy_map(hexadecimal);
         (digit(), digit(), digit(), digit()).map(|(a, b, c, d)| Piece::Unit(a << 12 | b << 8 | c << 4 | d))
@@ -135,7 +135,7 @@ rules! {
         recognize((optional(token(b'-')), whole, optional(fraction), optional(exponent))).skip(blanks())
     };
 
-    /// A word, letter by letter: over a cut `bytes` forgets those that it has taken.
+    /// A word, letter by letter: over a cut `bytes` forgets the letters that it has taken.
     word() -> Value = choice((
         (token(b'n'), token(b'u'), token(b'l'), token(b'l')).map(|_| Value::Null),
         (token(b't'), token(b'r'), token(b'u'), token(b'e')).map(|_| Value::Bool(true)),

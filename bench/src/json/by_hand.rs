@@ -1,4 +1,4 @@
-//! A loop by hand over the tokens of a document, with a list of what is open.
+//! A loop by hand over the tokens of a document, with a list of its open arrays and objects.
 
 use super::text::{escaped, hexadecimal, is_plain, Piece, Text};
 use super::{answer, Value, DEPTH};
@@ -20,7 +20,7 @@ fn document(bytes: &[u8], size: usize) -> Option<Value> {
 /// An array or an object that is open.
 enum Open {
     Array(Vec<Value>),
-    /// With the name of the entry whose value comes next.
+    /// An object, with the name of the entry whose value comes next.
     Object(Vec<(String, Value)>, String),
 }
 
@@ -36,18 +36,18 @@ enum Place {
     /// A name, or the end of an object.
     Entry,
     Colon,
-    /// A comma, or the end of what is open.
+    /// A comma, or the end of the open array or object.
     Behind,
 }
 
-/// A token whose end is looked for.
+/// A token whose end isn't found yet.
 #[derive(Clone, Copy)]
 enum Token {
-    /// From behind its first quote to its last one.
+    /// A text, from after its first quote to its last one.
     Text {
-        /// Whether the next byte stands behind a backslash.
+        /// Whether the next byte is after a backslash.
         is_escaped: bool,
-        /// Whether it has other bytes than those that stand for themselves.
+        /// Whether it has other bytes than those that mean themselves.
         has_others: bool,
     },
     /// A number or a word.
@@ -57,7 +57,7 @@ enum Token {
 impl Token {
     const TEXT: Token = Token::Text { is_escaped: false, has_others: false };
 
-    /// How many of these bytes are left of the token, if it ends here.
+    /// Returns how many of these bytes belong to the token, if it ends here.
     #[inline(always)]
     fn end(&mut self, bytes: &[u8]) -> Option<usize> {
         let Token::Text { is_escaped, has_others } = self else {
@@ -87,7 +87,7 @@ impl Token {
 struct Reader {
     open: Vec<Open>,
     place: Place,
-    /// The whole document, once it is read.
+    /// The whole document, after its end.
     whole: Option<Value>,
     /// A token that a cut divides, and its bytes so far.
     cut: Option<Token>,
@@ -114,7 +114,7 @@ impl Reader {
         Some(())
     }
 
-    /// Takes the token that begins here, or keeps it where a cut divides it; answers what stands behind it.
+    /// Takes the token that begins here, or keeps it if a cut divides it; returns the rest.
     #[inline(always)]
     fn begin<'a>(&mut self, mut token: Token, bytes: &'a [u8]) -> Option<&'a [u8]> {
         let Some(end) = token.end(bytes) else {
@@ -127,7 +127,7 @@ impl Reader {
         Some(behind)
     }
 
-    /// Goes on with a token that a cut divides.
+    /// Continues a token that a cut divides.
     fn go_on<'a>(&mut self, mut token: Token, bytes: &'a [u8]) -> Option<&'a [u8]> {
         let end = token.end(bytes);
         let (taken, behind) = bytes.split_at(end.unwrap_or(bytes.len()));
@@ -225,7 +225,7 @@ impl Reader {
     }
 }
 
-/// The value that a word or a number is.
+/// Returns the value of a word or a number.
 #[inline(always)]
 fn plain(bytes: &[u8]) -> Option<Value> {
     match bytes {
@@ -261,7 +261,7 @@ fn is_number(bytes: &[u8]) -> bool {
     end == bytes.len()
 }
 
-/// The text between two quotes.
+/// Returns the text between two quotes.
 #[inline(always)]
 fn text(bytes: &[u8], has_others: bool) -> Option<String> {
     if has_others {

@@ -1,4 +1,4 @@
-//! A reader as nom's users write it, by functions that call one another.
+//! A reader as nom's users write it: functions that call one another.
 
 use super::text::{escaped, hexadecimal, is_plain, Piece, Text};
 use super::{answer, Value};
@@ -11,7 +11,7 @@ use nom::number::complete::u8;
 use nom::sequence::{delimited, pair, preceded, separated_pair, terminated, tuple};
 use nom::IResult;
 
-/// The whole input at once.
+/// Parses the whole input at once.
 pub fn read(bytes: &[u8], _piece: usize) -> u64 {
     let read = all_consuming(preceded(blanks, document))(bytes);
     answer(read.ok().map(|(_, document)| document))
@@ -21,7 +21,7 @@ fn blanks(input: &[u8]) -> IResult<&[u8], &[u8]> {
     take_while(|byte| matches!(byte, b' ' | b'\t' | b'\n' | b'\r'))(input)
 }
 
-/// A sign, and the blanks behind it.
+/// Parses a sign, and the blanks after it.
 fn sign<'a>(sign: char) -> impl FnMut(&'a [u8]) -> IResult<&'a [u8], char> {
     terminated(char(sign), blanks)
 }

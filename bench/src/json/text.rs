@@ -1,4 +1,4 @@
-//! Texts as they are read, piece by piece, without their escapes.
+//! Texts, read piece by piece, their escapes resolved.
 
 /// A piece of a text.
 #[derive(Clone, Copy)]
@@ -7,7 +7,7 @@ pub enum Piece<'a> {
     Byte(u8),
     /// Some bytes of its UTF-8.
     Bytes(&'a [u8]),
-    /// What `\u` and four digits say: a character, or half of a pair of surrogates.
+    /// The number of `\u` and four digits: a character, or half of a pair of surrogates.
     Unit(u16),
 }
 
@@ -35,7 +35,7 @@ impl Text {
         }
     }
 
-    /// What comes behind the first half of a pair.
+    /// Adds the piece after the first half of a pair.
     fn push_second(&mut self, piece: Piece) {
         match (self.high.take(), piece) {
             (Some(high), Piece::Unit(low)) => self.push_units(&[high, low]),
@@ -50,7 +50,7 @@ impl Text {
         }
     }
 
-    /// The whole text; none where it has half of a pair, or isn't UTF-8.
+    /// Returns the whole text; `None` if it has half of a pair, or isn't UTF-8.
     pub fn finished(self) -> Option<String> {
         if self.has_half || self.high.is_some() {
             return None;
@@ -65,7 +65,7 @@ impl Extend<Piece<'static>> for Text {
     }
 }
 
-/// The byte that a byte behind a backslash says by itself.
+/// Returns the byte that a byte after a backslash means.
 pub fn escaped(byte: u8) -> Option<u8> {
     match byte {
         b'"' | b'\\' | b'/' => Some(byte),
@@ -78,12 +78,12 @@ pub fn escaped(byte: u8) -> Option<u8> {
     }
 }
 
-/// The number that a hexadecimal digit says.
+/// Returns the number of a hexadecimal digit.
 pub fn hexadecimal(byte: u8) -> Option<u16> {
     char::from(byte).to_digit(16).map(|digit| digit as u16)
 }
 
-/// Whether a byte may stand in a text as itself.
+/// Returns whether a byte in a text means itself.
 pub fn is_plain(byte: u8) -> bool {
     byte >= b' ' && byte != b'"' && byte != b'\\'
 }

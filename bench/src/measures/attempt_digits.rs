@@ -1,6 +1,6 @@
-//! `attempt(many1(digit()))` over bytes, collected. The answer is how many digits there are.
+//! `attempt(many1(digit()))` over bytes, collected. The result is how many digits there are.
 //!
-//! Ours puts all back whenever it needs more, and keeps how far it had read; the crate keeps the tokens taken.
+//! Ours puts all back whenever it needs more, and keeps how far it read; the crate keeps the tokens taken.
 
 use crate::classes::is_digit;
 use crate::measure::{Measure, REFUSED};

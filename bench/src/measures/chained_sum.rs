@@ -1,4 +1,4 @@
-//! `chainl1` of digits with `+` between them. The answer is their sum.
+//! `chainl1` of digits with `+` between them. The result is their sum.
 
 use crate::classes::is_digit;
 use crate::measure::{Measure, REFUSED};
@@ -46,7 +46,7 @@ fn combine(bytes: &[u8], piece: usize) -> u64 {
     sum.map_or(REFUSED, |(sum, _)| sum)
 }
 
-/// What `many` adds up in.
+/// The sum, as a collection of `many`.
 #[derive(Default)]
 struct Sum(u64);
 
@@ -58,7 +58,7 @@ impl Extend<u64> for Sum {
     }
 }
 
-/// Without `chainl1`, which over a cut forgets its operator.
+/// Written without `chainl1`, which over a cut forgets its operator.
 fn resumable<I: combine::Stream<Token = u8>>() -> impl combine::Parser<I, Output = u64> {
     use combine::{many, parser::byte::digit, token, Parser};
     let further = many::<Sum, _, _>(token(b'+').with(digit().map(value)));

@@ -1,4 +1,4 @@
-//! `skip_many` of frames of 60 bytes, each collected by `count_min_max`. The answer is how many bytes it took.
+//! `skip_many` of frames of 60 bytes, each collected by `count_min_max`. The result is how many bytes it took.
 
 use crate::measure::{Measure, REFUSED};
 use crate::{by_combine, by_nom, inputs};
@@ -34,7 +34,7 @@ fn hand(bytes: &[u8], piece: usize) -> u64 {
     }
 }
 
-/// Each byte taken alone, as a parser of one token takes it, into a frame with room for all.
+/// Takes each byte alone, as a parser of one token does, into a frame with room for all.
 fn by_byte(bytes: &[u8], piece: usize) -> u64 {
     let mut frame = Vec::with_capacity(SIZE);
     for piece in bytes.chunks(if piece == 0 { bytes.len().max(1) } else { piece }) {

@@ -1,4 +1,4 @@
-//! Frames behind their length, two bytes, decoded one after another, each in a vector. The answer is a checksum of the
+//! Frames after their length of two bytes, decoded one after another, each to a vector. The result is a checksum of the
 //! frames, in their order.
 
 use crate::measure::{size_of, Measure, DECODED, REFUSED};
@@ -22,17 +22,17 @@ pub const MEASURE: Measure = Measure {
     ],
 };
 
-/// Each frame is summed up as it comes.
+/// Sums up each frame as it comes.
 fn hand(bytes: &[u8], piece: usize) -> u64 {
     by_hand::<false>(bytes, piece)
 }
 
-/// The frames of a piece are gathered in a list, as a decoder gives them.
+/// Collects the frames of a piece in a list, as a decoder returns them.
 fn hand_by_piece(bytes: &[u8], piece: usize) -> u64 {
     by_hand::<true>(bytes, piece)
 }
 
-/// The bytes of a frame are copied at once, as far as a piece has them.
+/// Copies the bytes of a frame at once, as far as a piece has them.
 #[inline(always)]
 fn by_hand<const GATHERS: bool>(bytes: &[u8], piece: usize) -> u64 {
     let mut tally = Tally::default();
@@ -70,7 +70,7 @@ fn by_hand<const GATHERS: bool>(bytes: &[u8], piece: usize) -> u64 {
     }
 }
 
-/// Each byte taken alone, as a parser of one token takes it, into a frame with room for all.
+/// Takes each byte alone, as a parser of one token does, into a frame with room for all.
 fn by_byte(bytes: &[u8], piece: usize) -> u64 {
     let mut tally = Tally::default();
     let (mut high, mut frame, mut left) = (None, Vec::new(), 0);
@@ -109,7 +109,7 @@ fn combine(bytes: &[u8], piece: usize) -> u64 {
     }
 }
 
-/// The messages of a piece gathered, as a `Decoder` of ours gives them.
+/// Collects the messages of a piece, as a `Decoder` of ours returns them.
 fn combine_by_piece(bytes: &[u8], piece: usize) -> u64 {
     let mut tally = Tally::default();
     let taken = by_combine::each_by_piece(frame(), bytes, size_of(bytes, piece), |frame: Vec<u8>| tally.add(&frame));
@@ -120,7 +120,7 @@ fn combine_by_piece(bytes: &[u8], piece: usize) -> u64 {
     }
 }
 
-/// The parser stands in the call, since the state of one that a function answers would borrow the buffer.
+/// The parser is written in the call, since the state of one that a function returns would borrow the buffer.
 fn combine_by_decode(bytes: &[u8], piece: usize) -> u64 {
     use combine::parser::byte::num::be_u16;
     use combine::{any, attempt, count_min_max, Parser};
@@ -138,7 +138,7 @@ fn combine_by_decode(bytes: &[u8], piece: usize) -> u64 {
     }
 }
 
-/// Each frame as a range of combine's, which wants a window that has all of it.
+/// Reads each frame as a range of combine's, which requires a window that has all of it.
 fn range(bytes: &[u8], piece: usize) -> u64 {
     use combine::parser::range::take;
     use combine::Parser;
@@ -157,7 +157,7 @@ fn frame<I: combine::Stream<Token = u8>>() -> impl combine::Parser<I, Output = V
     length().then_partial(|length| count_min_max(*length, *length, any()))
 }
 
-/// A length puts its bytes back over a cut, since there the crate's integers lose them.
+/// Puts a length's bytes back over a cut, since there the crate's integers lose them.
 fn length<I: combine::Stream<Token = u8>>() -> impl combine::Parser<I, Output = usize> {
     use combine::parser::byte::num::be_u16;
     use combine::{attempt, Parser};

@@ -1,4 +1,4 @@
-//! Settings, decoded one after another, the word and the digits of each in vectors. The answer is a checksum of the
+//! Settings, decoded one after another, the word and the digits of each in vectors. The result is a checksum of the
 //! words and the digits, in their order.
 
 use crate::classes::{is_digit, is_lower, past};
@@ -35,7 +35,7 @@ impl Setting {
     }
 }
 
-/// A setting that the bytes begin with, and what stands behind it; none where one is broken, or its end isn't there.
+/// Returns the setting that the bytes begin with, and the rest; `None` if it is broken or has no end yet.
 #[inline(always)]
 fn begins(bytes: &[u8]) -> Option<(Setting, &[u8])> {
     let word = past(bytes, 0, is_lower);
@@ -50,17 +50,17 @@ fn begins(bytes: &[u8]) -> Option<(Setting, &[u8])> {
     Some((setting, &bytes[end + 1..]))
 }
 
-/// Each setting is summed up as it comes.
+/// Sums up each setting as it comes.
 fn hand(bytes: &[u8], piece: usize) -> u64 {
     by_hand::<false>(bytes, piece)
 }
 
-/// The settings of a piece are gathered in a list, as a decoder gives them.
+/// Collects the settings of a piece in a list, as a decoder returns them.
 fn hand_by_piece(bytes: &[u8], piece: usize) -> u64 {
     by_hand::<true>(bytes, piece)
 }
 
-/// What stands before the `;` of a setting that a cut divides is kept till that comes.
+/// Keeps a setting that a cut divides until its `;` comes.
 #[inline(always)]
 fn by_hand<const GATHERS: bool>(bytes: &[u8], piece: usize) -> u64 {
     let mut tally = Tally::default();
@@ -106,7 +106,7 @@ fn combine(bytes: &[u8], piece: usize) -> u64 {
     }
 }
 
-/// The messages of a piece gathered, as a `Decoder` of ours gives them.
+/// Collects the messages of a piece, as a `Decoder` of ours returns them.
 fn combine_by_piece(bytes: &[u8], piece: usize) -> u64 {
     let mut tally = Tally::default();
     let taken = by_combine::each_by_piece(setting(), bytes, size_of(bytes, piece), |setting: Setting| setting.add_to(&mut tally));
@@ -117,7 +117,7 @@ fn combine_by_piece(bytes: &[u8], piece: usize) -> u64 {
     }
 }
 
-/// The parser stands in the call, since the state of one that a function answers would borrow the buffer.
+/// The parser is written in the call, since the state of one that a function returns would borrow the buffer.
 fn combine_by_decode(bytes: &[u8], piece: usize) -> u64 {
     use combine::{many1, satisfy, token, Parser};
     let mut tally = Tally::default();
@@ -141,7 +141,7 @@ fn setting<I: combine::Stream<Token = u8>>() -> impl combine::Parser<I, Output =
         .map(|(word, _, digits, _)| Setting { word, digits })
 }
 
-/// The word and the digits as ranges of combine's, each of which wants a window that has all of it.
+/// Reads the word and the digits as ranges of combine's, each of which requires a window that has all of it.
 fn range(bytes: &[u8], piece: usize) -> u64 {
     use combine::parser::range::take_while1;
     use combine::{token, Parser};

@@ -1,4 +1,4 @@
-//! `many1(digit())` over bytes, collected. The answer is the number of an outcome: how many bytes it took.
+//! `many1(digit())` over bytes, collected. The result is how many bytes it took.
 
 use crate::classes::{is_digit, past};
 use crate::measure::{Measure, REFUSED};

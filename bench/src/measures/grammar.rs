@@ -1,4 +1,4 @@
-//! Statements of a grammar of ten rules, over a slice. The answer is what they are worth.
+//! Statements of a grammar of ten rules, over a slice. The result is their worth.
 
 use crate::measure::{Measure, REFUSED};
 use crate::{grammar, inputs};

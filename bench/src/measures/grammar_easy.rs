@@ -1,4 +1,4 @@
-//! The same as `grammar`, over an `easy::Stream`. The answer is what the statements are worth.
+//! The same as `grammar`, over an `easy::Stream`. The result is the statements' worth.
 
 use crate::measure::{Measure, REFUSED};
 use crate::{grammar, inputs};

@@ -1,4 +1,4 @@
-//! JSON: what nests deep. The answer is what the document comes to (`json.rs`).
+//! JSON: deep nesting. The result is the document's checksum (`json.rs`).
 
 use crate::inputs;
 use crate::json::SIDES;

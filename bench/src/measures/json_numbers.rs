@@ -1,4 +1,4 @@
-//! JSON: arrays of numbers. The answer is what the document comes to (`json.rs`).
+//! JSON: arrays of numbers. The result is the document's checksum (`json.rs`).
 
 use crate::inputs;
 use crate::json::SIDES;

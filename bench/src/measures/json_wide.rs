@@ -1,4 +1,4 @@
-//! JSON: objects with many entries. The answer is what the document comes to (`json.rs`).
+//! JSON: objects with many entries. The result is the document's checksum (`json.rs`).
 
 use crate::inputs;
 use crate::json::SIDES;

@@ -1,4 +1,4 @@
-//! A choice over eight keywords, as a tuple. The answer is how many bytes it took.
+//! A choice over eight keywords, as a tuple. The result is how many bytes it took.
 
 use crate::measure::{Measure, REFUSED};
 use crate::{by_combine, inputs, keywords};

@@ -1,4 +1,4 @@
-//! `skip_many(letter())` over letters of ASCII, which is read as UTF-8 first. The answer is how many bytes they take.
+//! `skip_many(letter())` over letters of ASCII, after a check of the UTF-8. The result is how many bytes they take.
 
 use crate::measure::Measure;
 use crate::{inputs, texts};

@@ -1,4 +1,4 @@
-//! `skip_many(letter())` over Greek letters, which is read as UTF-8 first. The answer is how many bytes they take.
+//! `skip_many(letter())` over Greek letters, after a check of the UTF-8. The result is how many bytes they take.
 
 use crate::measure::Measure;
 use crate::{inputs, texts};

@@ -1,4 +1,4 @@
-//! Lines and columns counted over text. The answer is the line times 2^32 plus the column of what is behind the text.
+//! Lines and columns counted over text. The result is the line times 2^32 plus the column after the text.
 
 use crate::inputs;
 use crate::measure::{Measure, REFUSED};

@@ -1,4 +1,4 @@
-//! Lines of 80 bytes, each found by a search for `\r\n`. The answer is how many bytes they take.
+//! Lines of 80 bytes, each found by a search for `\r\n`. The result is how many bytes they take.
 
 use crate::measure::Measure;
 use crate::{inputs, lines};

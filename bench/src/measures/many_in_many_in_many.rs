@@ -1,5 +1,5 @@
-//! Nesting: `skip_many` of lines, which are `skip_many1` of words with a `;` behind them, which are `skip_many1` of
-//! letters with a `,` behind them. The answer is how many bytes it took.
+//! Nesting: `skip_many` of lines, which are `skip_many1` of words with a `;` after them, which are `skip_many1` of
+//! letters with a `,` after them. The result is how many bytes it took.
 
 use crate::classes::{is_lower, past};
 use crate::measure::{Measure, REFUSED};

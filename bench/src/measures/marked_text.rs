@@ -1,4 +1,4 @@
-//! Text up to a marker by `take_until`, collected. The answer is how many bytes it took.
+//! Text up to a marker by `take_until`, collected. The result is how many bytes it took.
 
 use crate::measure::{Measure, REFUSED};
 use crate::{by_combine, by_nom, inputs};
@@ -35,7 +35,7 @@ fn hand(bytes: &[u8], piece: usize) -> u64 {
     }
 }
 
-/// Each byte taken alone, as a parser of one token takes it.
+/// Takes each byte alone, as a parser of one token does.
 fn by_byte(bytes: &[u8], piece: usize) -> u64 {
     let mut text = Vec::new();
     let mut marks = 0;

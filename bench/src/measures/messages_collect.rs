@@ -1,5 +1,5 @@
 //! Messages, collected: `many` of the message parser, the word and the digits of each message kept in vectors.
-//! The answer is a checksum of the kept words and digits, in their order.
+//! The result is a checksum of the kept words and digits, in their order.
 
 use crate::classes::{is_digit, is_lower};
 use crate::measure::{Measure, REFUSED};
@@ -14,7 +14,7 @@ pub const MEASURE: Measure = Measure {
     sides: &[("hand", hand), ("combine", combine), ("combine by message", combine_by_message), ("nom", nom)],
 };
 
-/// A message; no digits where the word is deleted.
+/// A message; without digits if the word is deleted.
 struct Message {
     word: Vec<u8>,
     digits: Option<Vec<u8>>,
@@ -64,7 +64,7 @@ fn combine(bytes: &[u8], piece: usize) -> u64 {
     answer.map_or(REFUSED, |(tally, _)| tally.sum)
 }
 
-/// One message after the other, the kept state begun anew for each.
+/// Parses one message after the other, each with a new state.
 fn combine_by_message(bytes: &[u8], piece: usize) -> u64 {
     let mut tally = Tally::default();
     let taken = by_combine::each(resumable_message(), bytes, piece, |message| message.add_to(&mut tally));
@@ -81,8 +81,8 @@ fn message<I: combine::Stream<Token = u8>>() -> impl combine::Parser<I, Output =
     ))
 }
 
-/// With its alternatives where they part, since over a cut the crate's `attempt` and `choice` lose their way.
-/// Any word may stand before the blank here.
+/// Chooses where the alternatives part, since over a cut the crate's `attempt` and `choice` lose their place.
+/// Any word may precede the blank here.
 fn resumable_message<I: combine::Stream<Token = u8>>() -> impl combine::Parser<I, Output = Message> {
     use combine::*;
     let word = || many1::<Vec<u8>, _, _>(satisfy(is_lower));

@@ -1,4 +1,4 @@
-//! Messages, skipped: `skip_many` of the message parser. The answer is how many bytes it took.
+//! Messages, skipped: `skip_many` of the message parser. The result is how many bytes it took.
 
 use crate::classes::{is_digit, is_lower, past};
 use crate::measure::{Measure, REFUSED};
@@ -52,7 +52,7 @@ fn combine(bytes: &[u8], piece: usize) -> u64 {
     by_combine::taken(skip_many(message()), skip_many(resumable_message()), bytes, piece)
 }
 
-/// One message after the other, the kept state begun anew for each.
+/// Parses one message after the other, each with a new state.
 fn combine_by_message(bytes: &[u8], piece: usize) -> u64 {
     let taken = by_combine::each(resumable_message(), bytes, piece, |()| ());
     taken.map_or(REFUSED, |taken| taken as u64)
@@ -67,8 +67,8 @@ fn message<I: combine::Stream<Token = u8>>() -> impl combine::Parser<I, Output =
     ))
 }
 
-/// With its alternatives where they part, since over a cut the crate's `attempt` and `choice` lose their way.
-/// Any word may stand before the blank here: to look whether it is `del` would cost more.
+/// Chooses where the alternatives part, since over a cut the crate's `attempt` and `choice` lose their place.
+/// Any word may precede the blank here: a check that it is `del` would cost more.
 fn resumable_message<I: combine::Stream<Token = u8>>() -> impl combine::Parser<I, Output = ()> {
     use combine::*;
     let word = || skip_many1(satisfy(is_lower));

@@ -1,4 +1,4 @@
-//! Nesting of depth 0: `skip_many` of one token. The answer is how many bytes it took.
+//! Nesting of depth 0: `skip_many` of one token. The result is how many bytes it took.
 
 use crate::classes::{is_digit, is_lower, past};
 use crate::measure::Measure;

@@ -1,4 +1,4 @@
-//! Frames whose length stands before them, in two bytes. The answer is how many bytes they take.
+//! Frames after their length of two bytes. The result is how many bytes they take.
 
 use crate::measure::{Measure, REFUSED};
 use crate::{by_combine, inputs};

@@ -1,4 +1,4 @@
-//! `sep_by` of numbers with `,` between them, the digits of each collected. The answer is how many numbers there are.
+//! `sep_by` of numbers with `,` between them, the digits of each collected. The result is how many numbers there are.
 
 use crate::classes::{is_digit, past};
 use crate::measure::{Measure, REFUSED};
@@ -51,7 +51,7 @@ fn combine(bytes: &[u8], piece: usize) -> u64 {
     count(numbers.map(|(numbers, _)| numbers))
 }
 
-/// Without `sep_by`, which over a cut forgets that its first element was parsed.
+/// Written without `sep_by`, which over a cut forgets that its first element was parsed.
 fn resumable<I: combine::Stream<Token = u8>>() -> impl combine::Parser<I, Output = Vec<Vec<u8>>> {
     use combine::{many, many1, parser::byte::digit, token, Parser};
     let number = || many1::<Vec<u8>, _, _>(digit());

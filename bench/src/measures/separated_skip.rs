@@ -1,4 +1,4 @@
-//! `sep_by` of numbers with `,` between them, passed over. The answer is how many bytes it took.
+//! `sep_by` of numbers with `,` between them, passed over. The result is how many bytes it took.
 
 use crate::classes::{is_digit, past};
 use crate::measure::{Measure, REFUSED};
@@ -40,7 +40,7 @@ fn combine(bytes: &[u8], piece: usize) -> u64 {
     by_combine::taken(sep_by::<(), _, _, _>(skip_many1(digit()), token(b',')), resumable(), bytes, piece)
 }
 
-/// Without `sep_by`, which over a cut forgets that its first element was parsed.
+/// Written without `sep_by`, which over a cut forgets that its first element was parsed.
 fn resumable<I: combine::Stream<Token = u8>>() -> impl combine::Parser<I> {
     use combine::{parser::byte::digit, skip_many, skip_many1, token};
     (skip_many1(digit()), skip_many((token(b','), skip_many1(digit()))))

@@ -1,4 +1,4 @@
-//! `any().then(..)` with three alternatives behind a byte. The answer is how many bytes it took.
+//! `any().then(..)` with three alternatives after a byte. The result is how many bytes it took.
 
 use crate::classes::{is_digit, is_lower};
 use crate::measure::{Measure, REFUSED};

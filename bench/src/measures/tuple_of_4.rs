@@ -1,4 +1,4 @@
-//! Nesting: `skip_many` of a tuple of 4. The answer is how many bytes it took.
+//! Nesting: `skip_many` of a tuple of 4. The result is how many bytes it took.
 
 use crate::classes::{is_digit, is_lower};
 use crate::measure::Measure;

@@ -1,4 +1,4 @@
-//! Words by `take_while1`, a `;` behind each, over a slice or window by window. The answer is how many bytes it took.
+//! Words by `take_while1`, a `;` after each, over a slice or window by window. The result is how many bytes it took.
 
 use crate::classes::{is_lower, past};
 use crate::measure::{Measure, REFUSED};

@@ -1,10 +1,10 @@
-//! Which tokens a class has: the parser of one token is run on each byte, or on each character.
+//! The tokens of a class: its parser is run on each byte, or on each character.
 
 use combine::parser::{byte, char};
 use combine::stream::StreamOnce;
 use combine::Parser;
 
-/// The tokens that a class accepts, in ranges; none for what is no class.
+/// Returns the tokens that a class accepts, in ranges; `None` if there is no such class.
 pub fn answer(class: &str) -> Option<String> {
     macro_rules! classes {
         ($($name:ident)+) => {
@@ -33,7 +33,7 @@ fn accepts<I: combine::Stream + StreamOnce>(parser: &mut impl Parser<I>, input: 
     parser.parse(input).is_ok()
 }
 
-/// Numbers that rise, as `9-d,20`.
+/// Writes rising numbers, as `9-d,20`.
 fn ranges(numbers: Vec<u32>) -> String {
     let runs = numbers.chunk_by(|before, after| before + 1 == *after);
     let shown = runs.map(|run| match run {

@@ -6,7 +6,7 @@ use std::cell::Cell;
 /// More than any parse of a few tokens takes.
 const MOST: u32 = 10_000;
 
-/// What a guard stops a parse with.
+/// The panic by which a guard stops a parse.
 pub struct Endless;
 
 fn count(steps: &Cell<u32>) {
@@ -16,9 +16,9 @@ fn count(steps: &Cell<u32>) {
     }
 }
 
-/// Bytes or characters: what a whole input is made of.
+/// Bytes or characters, the tokens of a whole input.
 pub trait Letter: Copy + PartialEq + 'static {
-    /// The input of these letters of ASCII. Characters are left behind by their case.
+    /// Returns the input of these letters of ASCII. Characters are leaked by their case.
     fn all(letters: &[u8]) -> &[Self];
 }
 

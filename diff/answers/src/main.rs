@@ -1,5 +1,5 @@
-//! What combine answers: reads cases, one a line, and writes each with ` = ` and its answer behind it.
-//! diff/README.md says how both are written.
+//! Combine's results: reads cases, one a line, and writes each with ` = ` and its result after it.
+//! diff/README.md has the form of both.
 mod classes;
 mod guarded;
 // The list need not have a parser of each constructor.
@@ -13,7 +13,7 @@ mod texts;
 use std::io::{BufRead, BufWriter, Write};
 
 fn main() -> std::io::Result<()> {
-    // A parse that is stopped says nothing on standard error.
+    // A stopped parse prints nothing on standard error.
     std::panic::set_hook(Box::new(|_| ()));
     let mut out = BufWriter::new(std::io::stdout().lock());
     for line in std::io::stdin().lock().lines() {
@@ -48,7 +48,7 @@ fn read(case: &str) -> Option<(&str, Vec<u8>, Vec<(usize, bool)>)> {
     Some((parser, tokens, ends))
 }
 
-/// The byte that a letter stands for: its own, and for a few capitals one that is on an edge of whole numbers.
+/// Returns the byte of a letter: its own, and for a few capitals one at an edge of whole numbers.
 fn byte_of(letter: u8) -> u8 {
     match letter {
         b'N' => 0x00,

@@ -22,7 +22,7 @@ use combine::{dispatch, Parser};
 
 use crate::run::run;
 
-/// One line of the list, as the call that it stands for. Names of tokens stand for their bytes.
+/// One line of the list, as a call. Names of tokens mean their bytes.
 macro_rules! parser {
     (any()) => { any() };
     (satisfy($set:ident)) => { satisfy(|token: u8| stringify!($set).as_bytes().contains(&token)) };
@@ -123,7 +123,7 @@ macro_rules! parser {
     (not_followed_by($f:ident $a:tt)) => { not_followed_by(parser!($f $a).map(|_| 0_u8)) };
 }
 
-/// What `map` makes of a value.
+/// A value that `map` made.
 pub struct Mapped<T>(pub T);
 
 /// The value of a chain, in brackets as it was folded.
@@ -139,7 +139,7 @@ impl Chain {
     }
 }
 
-/// A token as a capital, but for `b`, which is refused.
+/// Returns a token as a capital, except `b`, which is refused.
 fn all_but_b(token: u8) -> Result<u8, UnexpectedParse> {
     if token == b'b' {
         return Err(UnexpectedParse::Unexpected);
@@ -157,7 +157,7 @@ fn compared<'a>(text: &'static str) -> impl Parser<Guarded<'a, u8>, Output = Str
         .map(|matched| String::from_utf8(matched.collect()).unwrap())
 }
 
-/// A slice of parsers for as long as is wanted: a case leaves it behind.
+/// Returns a slice of parsers of any lifetime: a case leaks it.
 fn lent<'p, P: 'p>(parsers: Vec<P>) -> &'p mut [P] {
     parsers.leak()
 }
@@ -174,7 +174,7 @@ fn counted<'a>(token: u8) -> impl Parser<Guarded<'a, u8>, Output = u8> {
     value(Counted::default()).map(move |_| token)
 }
 
-/// What combine answers; none for a parser that is not in the list.
+/// Returns combine's result; `None` for a parser that isn't in the list.
 pub fn answer(parser: &str, tokens: &[u8], ends: &[(usize, bool)]) -> Option<String> {
     include!(concat!(env!("OUT_DIR"), "/parsers.rs"))
 }

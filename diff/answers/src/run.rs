@@ -1,4 +1,4 @@
-//! Feeding a parser, as users of combine do: each window is what is unread and the next piece, and the state is kept.
+//! Feeds a parser, as users of combine do: each window is the unread tokens and the next piece, and the state is kept.
 
 use crate::guarded::{Endless, Guarded, Letter};
 use crate::show::Show;
@@ -7,7 +7,7 @@ use combine::stream::PointerOffset;
 use combine::Parser;
 use std::panic::{catch_unwind, AssertUnwindSafe};
 
-/// The answer as text; the ends are where the windows end, and whether more may follow there.
+/// Returns the result as text; the ends are where the windows end, and whether more may follow there.
 pub fn run<'a, T, P>(parser: P, tokens: &'a [u8], ends: &[(usize, bool)]) -> String
 where
     T: Letter,
@@ -30,7 +30,7 @@ where
     let mut taken = 0;
     for (asked, (end, open)) in ends.iter().enumerate() {
         let mut window = Guarded::new(&tokens[taken..*end], *open);
-        // On a list that is whole from the start: without a state, as `parse` does it.
+        // On a list that is whole from the start: without a state, as `parse` does.
         let answer = match ends {
             [(_, false)] => parser.parse_stream(&mut window),
             _ => parser.parse_stream_partial(&mut window, &mut state),

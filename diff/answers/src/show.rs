@@ -1,4 +1,4 @@
-//! How values are written: without blanks.
+//! Values as text, without blanks.
 
 use crate::parsers::{Chain, Mapped};
 
@@ -12,7 +12,7 @@ impl Show for u8 {
     }
 }
 
-/// The tokens that `tokens` answers.
+/// The tokens that `tokens` returns.
 impl Show for String {
     fn show(&self, text: &mut String) {
         text.push('"');

@@ -1,4 +1,4 @@
-//! What errors say, of whole inputs of characters: the parsers of diff/texts.list, as calls of combine.
+//! Errors as text, of whole inputs of characters: the parsers of diff/texts.list, as calls of combine.
 
 use combine::easy::{Error, Info};
 use combine::parser::char::{digit, letter, string};
@@ -11,7 +11,7 @@ use combine::parser::token::{any, eof, satisfy, token, value};
 use combine::stream::position;
 use combine::{easy, EasyParser, Parser};
 
-/// One line of the list, as the call that it stands for.
+/// One line of the list, as a call.
 macro_rules! worded {
     (any()) => { any() };
     (token(a)) => { token('a') };
@@ -51,7 +51,7 @@ macro_rules! worded {
 
 type Text<'a> = easy::Stream<position::Stream<&'a str, position::SourcePosition>>;
 
-/// A token, but for `b`, which is refused with a message.
+/// Returns a token, except `b`, which is refused with a message.
 fn all_but_b<'a>(token: char) -> Result<char, Error<char, &'a str>> {
     if token == 'b' {
         return Err(Error::Message(Info::Static("no b")));
@@ -59,7 +59,7 @@ fn all_but_b<'a>(token: char) -> Result<char, Error<char, &'a str>> {
     Ok(token)
 }
 
-/// `accepted`, or the lines of the error, `; ` behind each.
+/// Returns `accepted`, or the lines of the error, `; ` after each.
 fn said<'a, P: Parser<Text<'a>>>(mut parser: P, text: &'a str) -> String {
     match parser.easy_parse(position::Stream::new(text)) {
         Ok(_) => "accepted".into(),
@@ -67,7 +67,7 @@ fn said<'a, P: Parser<Text<'a>>>(mut parser: P, text: &'a str) -> String {
     }
 }
 
-/// What combine says of `PARSER INPUT`; none for a parser that is not in the list.
+/// Returns combine's text for `PARSER INPUT`; `None` for a parser that isn't in the list.
 pub fn answer(case: &str) -> Option<String> {
     let (parser, text) = case.split_once(' ')?;
     let text = text.strip_suffix('.')?;
