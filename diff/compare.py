@@ -78,7 +78,7 @@ def unmodelled(debian):
             continue
         modelled = crate.answer(case, crate.DEBIAN)
         if modelled != answer:
-            yield f"diff/crate does not answer as the crate does: {case} = {answer} and not {modelled}"
+            yield f"diff/crate differs from the crate: {case} = {answer} and not {modelled}"
 
 
 def unexplained(found):

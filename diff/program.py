@@ -52,7 +52,7 @@ def tried_at_once(parsers, worded, meant):
     with copied(parsers, worded) as crate:
         text = output(["rt", "try", "--seconds", "1500"], cwd=crate, input="".join(lines))
     if f"compared {len(lines)}\n" not in text:
-        raise Missing(f"rt try answered no {len(lines)} cases:\n{text[-500:]}")
+        raise Missing(f"rt try didn't compare {len(lines)} cases:\n{text[-500:]}")
     return meant | dict(line.split(" = ", 1) for line in text.splitlines() if " = " in line)
 
 
@@ -118,7 +118,7 @@ def found_in(title, uses, groups, names, types):
         "",
         "type Found = Option<Result<String, AllocError>>;",
         "",
-        "/// The answer of the parser of the list that has this text.",
+        "/// Returns the result of the listed parser that has this text.",
         f"pub(crate) fn find(alloc: Global, parser: {types}) -> Found {{",
         f"    None{calls}",
         "}",
