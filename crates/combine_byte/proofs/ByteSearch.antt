@@ -11,7 +11,7 @@ module _ {T : Type 0} (encoded : T → List ℕ) (w : Wanted (List ℕ)) (size :
   pub looks_found : (i : ℕ) → FindsBytes w bs (Some i) → Searched size (in_bytes encoded w) us (Found i)
   looks_found i p = record { is = subst (λ bs. StandsFirst w bs i) e p.is }
 
-  -- the bytes may end with a beginning of the wanted ones
+  -- the bytes may end with a beginning of the needle
   pub looks_in_vain : ((t : T) → size t ≡ length (encoded t)) → (n : ℕ) → n ≡ length bs - (w.items - 1) → FindsBytes w bs None → Searched size (in_bytes encoded w) us (NotFound n)
   looks_in_vain sized n i p = record { is = (nowhere, λ k l h. skips encoded w size sized us nowhere k (let a = ap length e in omega arith)) }
     where

@@ -72,7 +72,7 @@ module _ {X P T R E V S : Type 0} (s : Observers T R P E) (cmp : P → P → Ord
     merging u (CommitErr e) i h = reasons_fault s.kind w.is_open (whole w) e kinds.Memory h.0 tt
     merging u (PeekErr t) i h = absurd i
 
-    -- the next had another result
+    -- the next has another result
     pub next_reasons : (answer : ParseResult V E) → Reasoned s.kind w.is_open (refusals (m x) v w) answer → (result : ParseResult V E) → IsSettled result → AfterRefusal s (both_merged s cmp) so_far answer result → Reasoned s.kind w.is_open (whole w) result
     next_reasons (CommitOk a) r result i h = rw h.is (reasons_ok s.kind w.is_open (whole w) a)
     next_reasons (PeekOk a) r result i h = rw h.is (reasons_peek_ok s.kind w.is_open (whole w) a)

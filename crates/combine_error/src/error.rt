@@ -35,7 +35,7 @@ where
 ///
 /// # Errors
 ///
-/// - The other items of `parser` stay, and so do all items that the error had before.
+/// - The other items of `parser` stay, and so do all earlier items of the error.
 /// - A committed refusal, a fault and need of more are unchanged.
 /// - If there is no memory for an item, that is the committed fault `Memory`.
 ///

@@ -47,7 +47,7 @@ pub trait Frame: Drop {
     /// The results that `join` may have for the value of a frame inside this one. A frame that doesn't define it promises nothing.
     ghost joins: { Self → Self.Value → Next Self Self.Value → Type 0 } = { λ _ _ _. Unit {0} };
 
-    /// Frames that no caller can tell apart, for a grammar with one outcome: their results are alike too. A frame that doesn't define it is alike only to itself.
+    /// Frames that no caller can distinguish, for a grammar with one outcome: their results are alike too. A frame that doesn't define it is alike only to itself.
     ghost alike: { Self → Self → Type 0 } = { λ f g. f ≡ g };
 
     /// Items for which frames have alike results.

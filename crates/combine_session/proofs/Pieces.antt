@@ -246,7 +246,7 @@ module _ {P T R E A S : Type 0} (meaning : P → Meaning ℕ T R E A S) (m : Mea
     pub decides_at : IsReading m.whole → (a : Answer A UnexpectedParse) → a ≢ answers.More → Feeds meaning valid c new piece true (Ok a) → ParsesPieces m.whole m.heapless pieces (Ok a)
     decides_at law a d h = record { is = record { answer = (stops_at law a d h).answer; kind = kind_at a h; refused = refused_at a h } }
 
-    -- the reason why there is none, if it failed at this one and had no limit
+    -- the reason why there is none, if it failed at this one without a limit
     pub fails_at_piece : c.limit ≡ None → (e : SessionError) → Feeds meaning valid c new piece true (Err e) → ParsesPieces m.whole m.heapless pieces (Err e)
     fails_at_piece none errors.Memory h = record { is = tt }
     fails_at_piece none (errors.Fault k) h = let f = (fed_now meaning m valid (take n pieces) c far piece new _ h).1.is in record { is = (f.memory, λ l. f.wanted (far.same.heapless.0 l)) }

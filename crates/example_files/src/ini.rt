@@ -57,7 +57,7 @@ pub enum Class {
     Name,
     /// Characters of bare words.
     Word,
-    /// Characters that stand for themselves between quotes.
+    /// Characters that mean themselves between quotes.
     Plain,
     /// Characters of comments.
     Comment,
@@ -81,7 +81,7 @@ fn is_name_character(character: char) -> bool {
     character.is_ascii_alphanumeric() || matches!(character, '_' | '-')
 }
 
-/// Returns the character that one stands for after a backslash.
+/// Returns the character that one means after a backslash.
 #[derive(Clone, Copy, Drop)]
 pub struct Unescape;
 
@@ -110,7 +110,7 @@ impl Function<String> for ToQuoted {
     }
 }
 
-/// An integer that is no `i64`.
+/// An integer that doesn't fit in an `i64`.
 #[derive(Clone, Copy, Drop)]
 pub struct TooLarge;
 
@@ -291,7 +291,7 @@ pub fn file<I, R>(alloc: Global) -> File<I, R> {
     skip(sep_by(alloc, any_line(alloc), newline()), eof())
 }
 
-/// Returns the lines of a file, read from any stream of characters. The error says what that stream's errors keep.
+/// Returns the lines of a file, read from any stream of characters. The error is that stream's.
 fn read_stream<I: Stream<Token = char>>(alloc: Global, input: I) -> Result<Vec<Line>, I::Error>
 where
     I::Error: DetailedError<char, I::Range, I::Position, StreamError: From<TooLarge>>,

@@ -1,4 +1,4 @@
-//! The grammar of what one step reads. `I` is the stream.
+//! The grammar of one step: an item and the blanks around it. `I` is the stream.
 
 use crate::place::Place;
 use combine::parser::choice::or;
@@ -16,15 +16,15 @@ use std::alloc::Global;
 #[derive(Clone, Copy, Drop)]
 pub enum Class {
     Blank,
-    /// What numbers and words are made of.
+    /// Bytes of numbers and words.
     Bare,
-    /// What stands in a text as itself.
+    /// Bytes of a text that mean themselves.
     Plain,
-    /// What stands after a backslash.
+    /// Bytes after a backslash.
     Escape,
     /// A comma, a colon or a bracket.
     Sign,
-    /// The comma or the colon that may stand after what comes at a place.
+    /// The comma or the colon that may come next at a place.
     After(Place),
 }
 
@@ -67,7 +67,7 @@ pub type Byte<I> = Satisfy<I, Class>;
 
 pub type Blanks<I> = SkipMany<Byte<I>>;
 
-/// Parses the blanks that may stand between parts.
+/// Parses the blanks between parts.
 pub fn blanks<I>() -> Blanks<I> {
     skip_many(satisfy(Class::Blank))
 }
@@ -91,7 +91,7 @@ pub type Step<I> = Skip<
     Item,
 >;
 
-/// Parses what comes at a place, and blanks.
+/// Parses the next item at a place, and blanks.
 pub fn step<I>(alloc: Global, place: Place) -> Step<I> {
     let part = or(ignore(text()), skip_many1(satisfy(Class::Bare)));
     let after = optional(satisfy(Class::After(place)));

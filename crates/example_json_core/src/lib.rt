@@ -1,6 +1,6 @@
-//! JSON as RFC 8259 has it: a reader over `nested`, from bytes that stand whole or come in pieces, and a writer.
+//! JSON by RFC 8259: a reader over `nested`, from whole inputs or pieces, and a writer.
 //!
-//! It is what the program `example_json` stands on.
+//! The program `example_json` is made of it.
 #![tactic(auto)]
 
 mod grammar;

@@ -1,4 +1,4 @@
-//! What a document holds.
+//! The parts of a document.
 
 /// A part of a document.
 #[derive(Debug, PartialEq, Drop)]
@@ -17,7 +17,7 @@ pub enum Node {
     ObjectEnds,
 }
 
-/// The parts of a document, in the order in which they stand there.
+/// The parts of a document, in their order there.
 ///
-/// It is a list and no tree, so what nests deep is let go without a recursion.
+/// It is a list, not a tree, so a deeply nested document is dropped without recursion.
 pub type Document = Vec<Node>;

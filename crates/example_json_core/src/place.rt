@@ -1,6 +1,6 @@
-//! What may come next, by what was read.
+//! The places of a document, by what may come next.
 
-/// What may come next where an array, an object or the whole is open.
+/// A place in an open array, in an open object or in the whole, by what may come next.
 #[derive(Clone, Copy)]
 pub enum Place {
     /// The whole: a value.
@@ -26,12 +26,12 @@ pub enum Place {
 }
 
 impl Place {
-    /// Whether a text that stands here is a name.
+    /// Returns whether a text here is a name.
     pub fn takes_name(self) -> bool {
         matches!(self, Place::Object | Place::Name)
     }
 
-    /// Returns the place after a name or a value, if one may stand here.
+    /// Returns the place after a name or a value, if one may come here.
     pub fn after(self) -> Option<Place> {
         match self {
             Place::Whole => Some(Place::End),
@@ -42,7 +42,7 @@ impl Place {
         }
     }
 
-    /// Returns the place after a comma or a colon, if it may stand here.
+    /// Returns the place after a comma or a colon, if it may come here.
     pub fn after_sign(self, sign: u8) -> Option<Place> {
         match (self, sign) {
             (Place::ElementEnd, b',') => Some(Place::Element),
@@ -52,7 +52,7 @@ impl Place {
         }
     }
 
-    /// Returns what is said where something else stands here.
+    /// Returns the message for any other byte here.
     pub fn expected(self) -> &'static str {
         match self {
             Place::Whole | Place::Element | Place::Value => "value expected",

@@ -1,4 +1,4 @@
-//! The reader: the grammar over a slice, a text, pieces, and with errors that can be read.
+//! The reader: the grammar over a slice, a text, pieces, and with readable errors.
 
 use crate::grammar::{blanks, step};
 use crate::node::Document;
@@ -12,7 +12,7 @@ use std::alloc::Global;
 /// Why an input is refused, and after how many bytes.
 pub type JsonError<'a> = easy::Errors<u8, &'a [u8], usize>;
 
-/// Reads the document that a stream is.
+/// Reads a stream that is one document.
 fn read<I: Stream<Token = u8>>(alloc: Global, depth: usize, input: I) -> Result<Document, I::Error>
 where
     I::Error: ParseError<u8, I::Range, I::Position>,
@@ -23,16 +23,16 @@ where
     Ok(document)
 }
 
-/// Reads the document that a slice is.
+/// Reads a slice that is one document.
 ///
 /// # Errors
 ///
-/// It is refused where it isn't one value as the standard has it, or has arrays and objects more than `depth` inside one another; half of a pair of surrogates is refused too.
+/// It is refused if it isn't one value of RFC 8259, has more than `depth` arrays and objects inside one another, or has half of a pair of surrogates.
 pub fn read_slice(alloc: Global, depth: usize, input: &[u8]) -> Result<Document, UnexpectedParse> {
     read(alloc, depth, input)
 }
 
-/// Reads the document that a text is, as [`read_slice`] does.
+/// Reads a text that is one document, as [`read_slice`] does.
 pub fn read_text(alloc: Global, depth: usize, text: &str) -> Result<Document, UnexpectedParse> {
     read(alloc, depth, text.as_bytes())
 }
@@ -48,7 +48,7 @@ pub fn read_pieces(
     parse_pieces(alloc, between(blanks(), eof(), value), pieces)
 }
 
-/// Reads the same from a slice, and says why it is refused and after how many bytes.
+/// Reads the same from a slice, and returns why it is refused and after how many bytes.
 pub fn read_easily<'a>(
     alloc: Global,
     depth: usize,

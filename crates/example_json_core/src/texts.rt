@@ -1,11 +1,11 @@
-//! Texts: what stands between two quotes, and what it says.
+//! Texts: their characters, from the bytes between two quotes.
 
 use std::alloc::{AllocError, Global};
 
 /// A character and the rest after its escape, or why there is none.
 type Escaped<'a> = Result<(char, &'a str), &'static str>;
 
-/// Returns what a text says between whose quotes these bytes are, or why it says nothing.
+/// Returns the characters of a text with these bytes between its quotes, or why it has none.
 pub fn unescape(alloc: Global, bytes: &[u8]) -> Result<Result<String, &'static str>, AllocError> {
     let Ok(mut rest) = str::from_utf8(bytes) else {
         return Ok(Err("text is not UTF-8"));
@@ -29,7 +29,7 @@ pub fn unescape(alloc: Global, bytes: &[u8]) -> Result<Result<String, &'static s
     Ok(Ok(text))
 }
 
-/// Reads what follows a backslash.
+/// Reads an escape after its backslash.
 fn escape(text: &str) -> Escaped<'_> {
     let mut rest = text.chars();
     let character = match rest.next() {
@@ -45,7 +45,7 @@ fn escape(text: &str) -> Escaped<'_> {
     Ok((character, rest.as_str()))
 }
 
-/// Reads what follows `\u`: four digits, or two surrogates.
+/// Reads an escape after `\u`: four digits, or two surrogates.
 fn code_point(text: &str) -> Escaped<'_> {
     let (first, rest) = unit(text)?;
     if let Some(character) = char::from_u32(first) {

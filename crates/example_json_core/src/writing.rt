@@ -13,7 +13,7 @@ fn digit(value: u8) -> u8 {
     b'a'.saturating_add(value.saturating_sub(10))
 }
 
-/// Writes the text in quotes, with escapes where they must be.
+/// Writes the text in quotes, with escapes where required.
 fn write_text<W: Write>(out: &mut W, text: &str) -> io::Result<()> {
     out.write_all(b"\"")?;
     for byte in text.as_bytes() {
@@ -33,7 +33,7 @@ fn write_text<W: Write>(out: &mut W, text: &str) -> io::Result<()> {
     out.write_all(b"\"")
 }
 
-/// Writes one part, without what stands between it and others.
+/// Writes one part, without a comma before it.
 fn write_node<W: Write>(out: &mut W, node: &Node) -> io::Result<()> {
     match node {
         Node::Null => out.write_all(b"null"),
@@ -56,7 +56,7 @@ fn write_node<W: Write>(out: &mut W, node: &Node) -> io::Result<()> {
 ///
 /// # Errors
 ///
-/// That of the writer; how much is written then isn't said.
+/// That of the writer, after any part of the document.
 pub fn write_document<W: Write>(out: &mut W, document: &[Node]) -> io::Result<()> {
     let mut is_behind_value = false;
     for node in document {

@@ -62,7 +62,7 @@ impl Rows {
         }
     }
 
-    /// Fails if a row had another result.
+    /// Fails if a row has another result.
     ///
     /// # Errors
     ///

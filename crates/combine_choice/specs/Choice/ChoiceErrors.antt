@@ -7,7 +7,7 @@ use Rattle.combine_base.specs.Parser.Outcome.{Outcome, Refused}
 use Rattle.combine_choice.specs.Choice.Choices.{ReadingsAgree}
 
 module _ {P T E : Type 0} (joins : E → E → E → Type 0) where
-  -- both were refused peeked, the second from where the first had begun, with their errors joined
+  -- both were refused peeked, the second from the beginning of the first, with their errors joined
   pub record RefusesBoth (first second : Refusing P T E) (v w : View P T) (e : E) : Type 0 where
     pub own : E
     pub other : E

@@ -141,7 +141,7 @@ abbrev pub NoFault : {E : Type 0} → (E → Kind) → Option (Tracked E) → Ty
 NoFault kind None = Unit {0}
 NoFault kind (Some t) = IsFault (kind t.error) → ⊥
 
--- an answer may follow a refusal
+-- a result may follow a refusal
 pub record MayFollowRefusal {V E : Type 0} (kind : E → Kind) (refused : Option (Tracked E)) (answer : ParseResult V E) : Type 0 where
   pub first : NoFault kind refused
   pub later : PeeksNoFault kind answer

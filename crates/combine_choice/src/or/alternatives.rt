@@ -44,7 +44,7 @@ pub trait Alternatives<Input: Stream> {
 
     /// Chooses from the start or from the kept state.
     ///
-    /// `H` tells the halves of a choice apart: two halves of one type then have separate code, each called from one place.
+    /// `H` distinguishes the halves of a choice: two halves of one type then have separate code, each called from one place.
     fn choose<M: ParseMode, H>(
         &mut self,
         mode: M,
