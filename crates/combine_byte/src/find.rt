@@ -13,7 +13,7 @@ pub trait ByteTest {
         ensures { result ≡ passes self.now byte };
 }
 
-// Returns whether a byte of a block passes; it tests all of them.
+/// Returns whether a byte of a block passes; it tests all of them.
 #[inline(always)]
 fn any<T: ByteTest>(block: &[u8], test: &T) -> bool
     ensures { result ≡ false → Longest (fails_all (T.passes test.now)) block.now (length block.now) }
@@ -25,7 +25,7 @@ fn any<T: ByteTest>(block: &[u8], test: &T) -> bool
     found
 }
 
-// Returns the rest after the blocks of `N` bytes in which none passes.
+/// Returns the rest after the blocks of `N` bytes in which none passes.
 #[inline(always)]
 fn skip_blocks<'a, T: ByteTest, const N: usize>(bytes: &'a [u8], test: &T) -> &'a [u8]
     requires { 0 < N }
@@ -42,7 +42,7 @@ fn skip_blocks<'a, T: ByteTest, const N: usize>(bytes: &'a [u8], test: &T) -> &'
     rest
 }
 
-// Returns the first place where a byte passes, or the length, byte by byte.
+/// Returns the first place where a byte passes, or the length, byte by byte.
 #[inline(always)]
 fn scan<T: ByteTest>(bytes: &[u8], test: &T) -> usize
     ensures { FirstByte (T.passes test.now) bytes.now result }
@@ -126,7 +126,7 @@ impl ByteTest for Three {
     }
 }
 
-// Returns whether the bytes begin with the needle.
+/// Returns whether the bytes begin with the needle.
 #[inline(always)]
 fn begins(bytes: &[u8], needle: &[u8]) -> bool
     ensures { (result ≡ true) ↔ BeginsWithBytes (these_bytes needle.now) bytes.now }

@@ -1,4 +1,4 @@
--- the parsers of this crate, by their parts
+-- the parsers of characters and texts, by their parts
 use Rattle.std.specs.Prelude.{ℕ, List}
 use Rattle.std.proofs.Common.{Bor}
 use Rattle.combine_char.specs.declared.class.types.ClassParser.{ClassParser}

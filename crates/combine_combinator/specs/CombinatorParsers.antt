@@ -1,4 +1,4 @@
--- the parsers of this crate, by their parts
+-- the parsers that map, look ahead, collect tokens or are made lazily, by their parts
 use Rattle.combine_combinator.specs.declared.combinator.look.LookAhead.{LookAhead}
 use Rattle.combine_combinator.specs.declared.combinator.look.NoPartial.{NoPartial}
 use Rattle.combine_combinator.specs.declared.combinator.look.NotFollowedBy.{NotFollowedBy}

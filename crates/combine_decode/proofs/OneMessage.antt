@@ -108,7 +108,7 @@ module _ {P T R E V S : Type 0} (meaning : P → Meaning ℕ T R E V S) where
       by_its_stage stages.Decided i = begun i
       by_its_stage stages.Failed i = absurd (let e = i.0 in cc)
 
--- the measure of what remains: the unread tokens, and whether the session has accepted a message that takes some
+-- the measure of the remaining work: the unread tokens, and whether the session has accepted a message that takes some
 abbrev pub remaining : {V : Type 0} → ℕ → Answer V UnexpectedParse → ℕ
 remaining u answers.More = u
 remaining u (answers.Accepted v t k) = u + (if nat_lt 0 t then 1 else 0)

@@ -1,4 +1,4 @@
--- items added one after another
+-- one more item after those of a list
 use Rattle.std.proofs.Common.{◌≡◌, ◌⊎◌, inl, inr, List, [], ◌∷◌, ◌++◌, ap, sym, ◌∙◌, refl}
 use Rattle.combine_base.specs.Error.Items.{ErrorItem}
 use Rattle.combine_base.specs.Error.Errors.{Observers, Only, Added, Unstored, AddsItems, with_items, with_items_append}

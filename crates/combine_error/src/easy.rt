@@ -46,7 +46,7 @@ pub struct Errors<T, R, P> {
     pub kind: Kind,
 }
 
-// Returns whether both hold the same token, range, text or count, in the same way.
+/// Returns whether both hold the same token, range, text or count, in the same way.
 fn is_about_same<T: PartialEq, R: PartialEq>(this: &Info<T, R>, other: &Info<T, R>) -> bool
     ensures { result ≡ about_same T.eq R.eq (shown this.now) (shown other.now) }
 {
@@ -101,7 +101,7 @@ fn is_expected<T, R>(item: &Error<T, R>) -> bool
     matches!(item, Error::Expected(_))
 }
 
-// Returns the item with this role.
+/// Returns the item with this role.
 fn item_of<T, R>(role: Role, info: Info<T, R>) -> Error<T, R>
     ensures { said result ≡ in_role role (shown info) }
 {
@@ -112,7 +112,7 @@ fn item_of<T, R>(role: Role, info: Info<T, R>) -> Error<T, R>
     }
 }
 
-// Returns whether one of `errors` is equal to the item.
+/// Returns whether one of `errors` is equal to the item.
 fn is_there<T: PartialEq, R: PartialEq>(item: &Error<T, R>, errors: &[Error<T, R>]) -> bool
     ensures { result ≡ list_any (λ j. item_same T.eq R.eq (said j) (said item.now)) errors.now }
 {
@@ -124,7 +124,7 @@ fn is_there<T: PartialEq, R: PartialEq>(item: &Error<T, R>, errors: &[Error<T, R
     false
 }
 
-// Drops the item at an index if it is an expected one, and returns the index of the next item.
+/// Drops the item at an index if it is an expected one, and returns the index of the next item.
 fn drop_if_expected<T, R>(errors: &mut Vec<Error<T, R>>, at: usize) -> usize
 where
     T: Drop,
@@ -191,7 +191,7 @@ impl<T: Copy, R: Copy> StreamError<T, R> for Error<T, R> {
 }
 
 impl<T: Copy + PartialEq, R: Copy + PartialEq, P: Ord + Copy> Errors<T, R, P> {
-    // Adds an item at the end unless an equal one is there.
+    /// Adds an item at the end unless an equal one is there.
     fn put(&mut self, item: Error<T, R>)
         ensures { AddsItems (listed_errors T.eq R.eq) (Unit {0}) (Only (said item)) self.old self.new }
     {

@@ -1,4 +1,4 @@
--- the parsers of this crate, by their parts
+-- the parsers that change a value or an input, by their parts
 use Rattle.combine_function.specs.declared.combinator.changed.Changed.{Changed}
 use Rattle.combine_function.specs.declared.combinator.changes.FlatMapFn.{FlatMapFn}
 use Rattle.combine_function.specs.declared.combinator.changes.FromStrFn.{FromStrFn}

@@ -1,4 +1,4 @@
--- whether an accepted turn is a block, and what a failed reset leaves
+-- whether an accepted turn is a block, and the result of a failed reset
 use Rattle.std.proofs.Common.{ℕ, ◌+◌, ◌<◌, ◌≤◌, ◌≡◌, arith, Bool, true, false, sym, ◌∙◌}
 use Rattle.std.proofs.lemmas.Bool.{false≢true}
 use Rattle.combine_base.specs.Stream.View.{View, Takes, Moves}

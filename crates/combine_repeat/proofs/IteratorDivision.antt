@@ -1,4 +1,4 @@
--- what one turn is in the division of the remaining turns
+-- one turn in the division of the remaining turns
 use Rattle.std.proofs.Common.{ℕ, ◌+◌, ◌<◌, ◌≡◌, ◌⊎◌, inl, inr, arith, Bool, true, false, List, [], ◌∷◌, length, ap, sym, subst, refl, ◌∙◌, length-drop, ltb-true}
 use Rattle.combine_base.specs.Stream.View.{View, Takes, advanced}
 use Rattle.combine_base.specs.Parser.Outcome.{Outcome, Accepted, Refused, Undecided}

@@ -1,4 +1,4 @@
--- the parsers that the constructors return, and their parts
+-- the parsers of chains, and their parts
 use Rattle.std.specs.declared.alloc.Global.{Global}
 use Rattle.combine_combinator.specs.CombinatorParsers.{no_partial_of, picked_of}
 use Rattle.combine_combinator.specs.declared.combinator.look.NoPartial.{NoPartial}

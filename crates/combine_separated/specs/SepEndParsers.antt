@@ -1,4 +1,4 @@
--- the parsers that the constructors return, and their parts
+-- the parsers of `sep_end_by` and its kin, and their parts
 use Rattle.std.specs.declared.alloc.Global.{Global}
 use Rattle.combine_separated.specs.Ended.{closer_of, ended_of, ended_part}
 use Rattle.combine_separated.specs.declared.sep_end_by.SepEndRepeat.{SepEndRepeat}

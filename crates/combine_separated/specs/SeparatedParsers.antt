@@ -1,4 +1,4 @@
--- the parsers that the constructors return, and their parts
+-- the parsers of `sep_by` and its kin, and their parts
 use Rattle.std.specs.Prelude.{ℕ}
 use Rattle.std.specs.declared.alloc.Global.{Global}
 use Rattle.combine_separated.specs.declared.sep_by.SepRepeat.{SepRepeat}

@@ -133,7 +133,7 @@ fn parse_part<Input: Stream, O: Drop, W: Drop, P: Parser<Input>, M: ParseMode>(
     }
 }
 
-/// Runs the part as `parse_part` does, in a call that resumes; a function of its own, so that the code of calls that begin afresh has each part once.
+/// Runs the part as `parse_part` does, in a call that resumes; apart, so that the code of calls that begin afresh has each part once.
 fn resume_part<Input: Stream, O: Drop, W: Drop, P: Parser<Input>, M: ParseMode>(
     value: O,
     committed: bool,

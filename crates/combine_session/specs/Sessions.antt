@@ -78,7 +78,7 @@ module _ {Parser Token Range Error Value State : Type 0} (meaning : Parser → M
     -- a session of this parser without input yet
     pub record BeginsSession (determined : Parser → Type 0) (most : Option ℕ) (p : Parser) (c : Course Parser Token State) : Type 0 where
       pub parser : c.parser ≡ p
-      -- the rest is exactly what the parser means
+      -- the rest means exactly the same as the parser
       pub left : (x : List Token) (m : Bool) (o : Outcome Value) → left_of_session c x m o ↔ (meaning p).whole (record { position = 0; unread = x; is_open = m }) o
       pub single : determined p → MeansOne valid (meaning c.parser)
       pub unread : c.seen.unread ≡ []

@@ -28,7 +28,7 @@ pub fn cuts_fit<S: Windowed>(whole: S, cuts: &[usize]) -> bool
     true
 }
 
-// The state of a run: its window, the place of the first unread token, and the number of tokens before it.
+/// The state of a run: its window, the place of the first unread token, and the number of tokens before it.
 #[derive(Drop)]
 struct Run<S> {
     stream: MaybePartialStream<S>,
@@ -36,7 +36,7 @@ struct Run<S> {
     taken: usize,
 }
 
-// The result of parsing a window.
+/// The result of parsing a window.
 type Parsed<T, S> = Result<
     Answer<T, <<S as DefaultPositioned>::Located as StreamOnce>::Error>,
     Kind,
@@ -44,7 +44,7 @@ type Parsed<T, S> = Result<
 
 // Runs a parser once on the window from the first unread token to a place.
 //
-// The run is passed and returned by value, so that the stream is a local while the parser reads.
+/// Parses one window. The run is passed and returned by value, so that the stream is a local while the parser reads.
 fn parse_window<S: Windowed, P: Parser<MaybePartialStream<S::Located>>>(
     parser: &mut P,
     state: &mut P::PartialState,
@@ -116,7 +116,7 @@ fn parse_window<S: Windowed, P: Parser<MaybePartialStream<S::Located>>>(
 /// }
 /// ```
 ///
-/// Of `"a"` and the cuts `[0]` it is `Some((1, true))`: the first window is empty, and asks for more.
+/// Of `"a"` and the cuts `[0]` it is `Some((1, true))`: the first window is empty, and requests more.
 pub fn parse_cuts<S: Windowed, P: Parser<MaybePartialStream<S::Located>>>(
     parser: &mut P,
     whole: S,

@@ -108,7 +108,7 @@ impl<P: Parser<fed::Stream<T>>, T: Copy + 'static> Session<P, T> {
     ///
     /// It allocates nothing.
     ///
-    /// A piece that would make them more is `TooLong`, so a peer that never ends its message can't fill memory with unread tokens. What a parser collects isn't counted. `begin_again` keeps the limit.
+    /// A piece that would make them more is `TooLong`, so a peer that never ends its message can't fill memory with unread tokens. A parser's collections aren't counted. `begin_again` keeps the limit.
     ///
     /// A parser that keeps its taken tokens over a cut leaves none unread, and never meets the limit if no piece is longer than it.
     pub fn with_limit(alloc: Global, parser: P, limit: usize) -> Self
@@ -118,7 +118,7 @@ impl<P: Parser<fed::Stream<T>>, T: Copy + 'static> Session<P, T> {
         Self::limited(alloc, parser, Some(limit))
     }
 
-    // Returns a session that was fed nothing yet, with a limit or without.
+    /// Returns a session that was fed nothing yet, with a limit or without.
     fn limited(alloc: Global, parser: P, limit: Option<usize>) -> Self
         requires { P.lawful parser }
         ensures { BeginsSession P.meaning P.valid P.determined limit parser result }
@@ -261,7 +261,7 @@ pub fn parse_pieces<P: Parser<fed::Stream<T>> + Drop, T: Copy + 'static>(
     session.end()
 }
 
-// Returns whether that many more unread tokens are within the limit.
+/// Returns whether that many more unread tokens are within the limit.
 #[inline(always)]
 fn is_within(limit: Option<usize>, unread: usize, more: usize) -> bool
     ensures { result ≡ admits limit (unread + more) }
@@ -272,7 +272,7 @@ fn is_within(limit: Option<usize>, unread: usize, more: usize) -> bool
     }
 }
 
-// Returns whether `unread` and `more` are together at most `most`. It is a call, so that a session without a limit computes nothing of it.
+/// Returns whether `unread` and `more` are together at most `most`. It is a call, so that a session without a limit computes nothing of it.
 #[cold]
 #[inline(never)]
 fn is_at_most(most: usize, unread: usize, more: usize) -> bool
@@ -305,7 +305,7 @@ impl<P: Parser<fed::Stream<T>>, T: Copy + 'static> Session<P, T> {
     ghost use Rattle.combine_session.specs.declared.session.Stage.{Stage};
     ghost use Rattle.combine_session.specs.declared.session.Stage.TheVariants as stages;
 
-    // Parses the unread tokens, which end with a piece, and returns the parser's result. The first feed resumes from the default state, which means the whole. A stream in a local variable is read much faster than one through a reference. This is a call, so that a parse's code is in a session once.
+    /// Parses the unread tokens, which end with a piece, and returns the parser's result. The first feed resumes from the default state, which means the whole. A stream in a local variable is read much faster than one through a reference. This is a call, so that a parse's code is in a session once.
     #[inline(never)]
     fn advance(
         parser: &mut P,
@@ -327,7 +327,7 @@ impl<P: Parser<fed::Stream<T>>, T: Copy + 'static> Session<P, T> {
         parsed
     }
 
-    // Parses as `advance` does if no state is kept yet, so that the mode is known when the parser is compiled.
+    /// Parses as `advance` does if no state is kept yet, so that the mode is known when the parser is compiled.
     #[inline(never)]
     fn start(
         parser: &mut P,
@@ -348,7 +348,7 @@ impl<P: Parser<fed::Stream<T>>, T: Copy + 'static> Session<P, T> {
         parsed
     }
 
-    // Judges the parser's result and the stream after it, and sets the stage of the session.
+    /// Judges the parser's result and the stream after it, and sets the stage of the session.
     #[inline(always)]
     fn settle(
         stream: &fed::Stream<T>,

@@ -50,7 +50,7 @@ impl<S: Unfailing> Unfailing for MaybePartialStream<S> {
     ghost never_fails = { λ s t. S.never_fails s.0 t.0 };
 }
 
-// When a call of one kind fails.
+/// When a call of one kind fails.
 #[derive(Drop)]
 enum Due {
     // None fails.
@@ -62,7 +62,7 @@ enum Due {
 }
 
 impl Due {
-    // Returns when a call fails, by its number from 1; 0 is for none.
+    /// Returns when a call fails, by its number from 1; 0 is for none.
     fn at(number: u64) -> Due
         ensures { result ≡ due_at number }
     {
@@ -73,7 +73,7 @@ impl Due {
         }
     }
 
-    // Counts a call, and returns whether it is the one that fails.
+    /// Counts a call, and returns whether it is the one that fails.
     fn count(&mut self) -> bool
         ensures is { result ≡ fails_next self.old }
         ensures counted { self.new ≡ one_call self.old }
@@ -93,7 +93,7 @@ impl Due {
         }
     }
 
-    // Returns the number of calls that have failed so far.
+    /// Returns the number of calls that have failed so far.
     fn failed(&self) -> u64
         ensures { result ≡ failed self.now }
     {

@@ -113,7 +113,7 @@ pub trait Windowed: DefaultPositioned + Copy {
 /// }
 /// ```
 ///
-/// On `"a1;"` the stream that is left stands at line 1 and column 3.
+/// On `"a1;"` the stream that is left is at line 1 and column 3.
 pub struct Stream;
 
 impl Stream {

@@ -33,7 +33,7 @@ pub fn read_attribute(
     parse_pieces(alloc, attribute, pieces)
 }
 
-// Whether a byte may be between quotes.
+/// Returns whether a byte may be between quotes.
 fn is_inside(byte: u8) -> bool
     ensures { result ≡ not (nat_eq byte 34) }
 {

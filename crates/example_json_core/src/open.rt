@@ -1,4 +1,4 @@
-//! What is open, and what comes of what is read there.
+//! Open arrays and objects, and the effect of each item in them.
 
 use crate::grammar::{Item, is_number};
 use crate::node::{Document, Node};

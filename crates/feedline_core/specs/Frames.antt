@@ -1,4 +1,4 @@
--- a message after its length
+-- the meaning of a frame: its length in two bytes, and then its bytes
 use Rattle.std.specs.Prelude.{ℕ, [], ◌∷◌, ◌++◌, true}
 use Rattle.std.specs.Global.{Vec}
 use Rattle.combine_base.specs.Error.NoItems.{no_items}

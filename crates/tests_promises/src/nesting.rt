@@ -1,4 +1,4 @@
-//! Grammars that nest, and expressions.
+//! Promises of `nested` and `expression`.
 ghost use Rattle.std.specs.Prelude.{◌≡◌};
 
 use crate::promises::{keeps, keeps_alone};

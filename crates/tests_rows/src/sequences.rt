@@ -1,4 +1,4 @@
-//! Sequences, and parsers that a function returns.
+//! Rows of sequences, and of parsers that a function returns.
 
 use crate::rows::{Driver, Rows};
 use combine::error::ParseError;

@@ -28,7 +28,7 @@ module _ {P T R A B S S' E : Type 0} (w : World P T S E) (fresh : S' → Type 0)
     pub heapless : m'.heapless → m.heapless
     pub lost : r.first ≡ false → m.lost r.state r.old → (first ≡ false) × m'.lost state old
 
-  -- and what the inner one leaves on need of more is what the call around leaves
+  -- and the inner one leaves the same on need of more as the call around
   pub record KeepsAround (here : Reading P T B) (count : ℕ) : Type 0 where
     pub undecided : begun m r.first r.state r.old Undecided → here r.old Undecided
     pub resumes : (n : ℕ) → Takes w.step n r.old r.new → Resumes (begun m r.first r.state) (m.rest r.left) n r.old r.new → Resumes here (m'.rest left) n r.old r.new

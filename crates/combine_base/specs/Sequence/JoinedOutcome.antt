@@ -75,7 +75,7 @@ pub joined_one : {A B : Type 0} (i : ℕ) (c : Bool) (f g : A → B) (p p' : Out
 joined_one i c f g p p' o o' e w w' =
     ap shape w ∙ shape_joined i c f p ∙ ap (after i c) e ∙ sym (shape_joined i c g p') ∙ sym (ap shape w')
 
--- what is peeked in all is peeked in each part
+-- if the whole is peeked, so is each part
 pub neither_committed : (c d : Bool) → false ≡ (c || d) → (c ≡ false) × (d ≡ false)
 neither_committed false false e = (refl, refl)
 neither_committed false true e = absurd (cc)

@@ -1,4 +1,4 @@
-//! The parsers that the functions of `range` return.
+//! The parser that `take_fn` returns.
 
 use crate::search::{FindByFn, Searching};
 

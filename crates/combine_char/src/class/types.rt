@@ -1,4 +1,4 @@
-//! The parsers that the functions of this module return.
+//! The parsers of one token of a class, and of `crlf`.
 ghost use Rattle.std.specs.Prelude.{◌≡◌};
 ghost use Rattle.combine_char.specs.Classes.{takes_member};
 ghost use Rattle.combine_token.specs.Token.OneToken.{of_function, of_function_is_predicate, satisfied, satisfied_is_test, takes_one_is_meaning, takes_one_means_one};

@@ -121,7 +121,7 @@ fn choose<Input: Stream, P: Parser<Input>, M: ParseMode>(
     ParseResult::PeekErr(refused)
 }
 
-/// Calls `choose` where a call resumes; as a function of its own it keeps that copy out of the code of calls that begin afresh, with the loop once.
+/// Runs `choose` in a call that resumes; apart, so that the code of calls that begin afresh has the loop once.
 fn resume<Input: Stream, P: Parser<Input>, M: ParseMode>(
     alternatives: &mut [P],
     index: usize,

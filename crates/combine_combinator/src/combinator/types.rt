@@ -1,4 +1,4 @@
-//! The types of the parsers that the functions of `combinator` return.
+//! The parsers that the functions of this crate's `combinator` return.
 ghost use Rattle.std.specs.Prelude.{◌≡◌, if◌then◌else◌};
 ghost use Rattle.combine_combinator.specs.Attempt.{HasValidTry, IsFreshTry, attempted, attempted_is_meaning, attempted_means_one, refusing, KeepsTokenDistance, PutsBack};
 ghost use Rattle.combine_combinator.specs.CombinatorParsers.{attempt_part, map_function, map_of, map_part};

@@ -21,7 +21,7 @@ pub enum Collected<F> {
 }
 
 impl<F: Drop> Collected<F> {
-    // Returns the collection that the next call appends to.
+    /// Returns the collection that the next call appends to.
     #[inline(always)]
     fn or_empty<T>(self, alloc: Global) -> F
     where

@@ -37,7 +37,7 @@ impl<T: Display, R: Display, P: Display> Display for Errors<T, R, P> {
     }
 }
 
-// Writes a token or a range in backquotes, or a text.
+/// Writes a token or a range in backquotes, or a text.
 fn write_info<T: Display, R: Display, W: fmt::Write>(
     info: &Info<T, R>,
     f: &mut fmt::Formatter<W>,
@@ -51,7 +51,7 @@ fn write_info<T: Display, R: Display, W: fmt::Write>(
     }
 }
 
-// Writes a line for each unexpected item.
+/// Writes a line for each unexpected item.
 fn write_unexpected<T: Display, R: Display, W: fmt::Write>(
     errors: &[Error<T, R>],
     f: &mut fmt::Formatter<W>,
@@ -64,7 +64,7 @@ fn write_unexpected<T: Display, R: Display, W: fmt::Write>(
     Ok(())
 }
 
-// Writes the separator before the n-th of `count` expected items, counted from 0.
+/// Writes the separator before the n-th of `count` expected items, counted from 0.
 fn write_separator<W: fmt::Write>(
     n: usize,
     count: usize,
@@ -79,7 +79,7 @@ fn write_separator<W: fmt::Write>(
     write!(f, " or ")
 }
 
-// Writes one line of all expected items, if there are any: `Expected a, b or c`.
+/// Writes one line of all expected items, if there are any: `Expected a, b or c`.
 fn write_expected<T: Display, R: Display, W: fmt::Write>(
     errors: &[Error<T, R>],
     f: &mut fmt::Formatter<W>,
@@ -99,7 +99,7 @@ fn write_expected<T: Display, R: Display, W: fmt::Write>(
     writeln!(f)
 }
 
-// Writes a line for each message.
+/// Writes a line for each message.
 fn write_messages<T: Display, R: Display, W: fmt::Write>(
     errors: &[Error<T, R>],
     f: &mut fmt::Formatter<W>,

@@ -60,7 +60,7 @@ impl<P: Clone, A: Copy, R: Copy> Clone for Expected<P, Info<A, R>> {
     }
 }
 
-// Returns whether a committed error is a refusal, not need of more or a fault.
+/// Returns whether a committed error is a refusal, not need of more or a fault.
 #[inline]
 fn is_refusal<Input: Stream>(input: &Input, error: &Input::Error) -> bool
     ensures { (result ≡ true) ↔ IsRefusal (Input.view input.now).is_open (Input.Error.observers.kind error.now) }

@@ -11,7 +11,7 @@ use combine_base::stream::{Positioned, Stream, StreamOnce};
 #[derive(Clone, Drop)]
 pub struct Spanned<P>(pub(super) P);
 
-// Sets the span of an error that is at one position.
+/// Sets the span of an error that is at one position.
 #[inline]
 fn set_span<T, R, Q: Ord + Copy, E: DetailedError<T, R, Span<Q>>>(error: &mut E, span: Span<Q>)
     ensures { Spans Q.cmp E.observers span error.old error.new }
@@ -23,7 +23,7 @@ fn set_span<T, R, Q: Ord + Copy, E: DetailedError<T, R, Span<Q>>>(error: &mut E,
     }
 }
 
-// Sets the span of a result's error, if that is at one position.
+/// Sets the span of a result's error, if that is at one position.
 #[inline]
 fn at_span<O, T, R, Q: Ord + Copy, E: DetailedError<T, R, Span<Q>>>(
     answer: ParseResult<O, E>,

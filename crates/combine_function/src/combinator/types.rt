@@ -1,4 +1,4 @@
-//! The types of the parsers that the functions of `combinator` return.
+//! The parsers that `and_then`, `flat_map`, `map_input` and `from_str` return.
 
 pub use super::changed::Changed;
 pub use super::changes::{AndThenFn, FlatMapFn, FromStrFn, MapInputFn};

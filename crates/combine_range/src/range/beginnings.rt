@@ -32,7 +32,7 @@ pub struct TakeWhile1<Input, F> {
     pub(super) reads: PhantomData<Input>,
 }
 
-// Makes one call. An empty beginning is refused if `some` is true.
+/// Makes one call. An empty beginning is refused if `some` is true.
 #[inline(always)]
 fn take_beginning<Input: RangeStream, F: Function<Input::Token, Output = bool>>(
     test: &F,

@@ -43,7 +43,7 @@ impl<S> RecognizeState<S> {
     }
 }
 
-// Returns the result with a value beside its own.
+/// Returns the result with a value beside its own.
 #[inline(always)]
 fn with_value<R, V: Drop, E>(answer: ParseResult<R, E>, value: V) -> ParseResult<(R, V), E>
     ensures { result ≡ beside_value value answer }

@@ -1,4 +1,4 @@
-//! The parsers that the functions of `range` return.
+//! The parsers that the functions of this crate's `range` return.
 
 pub use super::beginnings::{TakeWhile, TakeWhile1};
 pub use super::lengths::{Range, Take};

@@ -1,4 +1,4 @@
-//! Names of [`Repeat`](crate::counts::Repeat) for the functions of this module.
+//! Names of [`Repeat`](crate::counts::Repeat) for counted repetitions.
 use crate::bounds::MinToMax;
 use crate::counts::Repeat;
 use crate::each::{Dropped, Each};

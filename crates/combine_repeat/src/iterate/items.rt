@@ -175,7 +175,7 @@ pub(super) fn parse_item<
     }
 }
 
-/// Runs an item's parser as `parse_item` does, in a call that resumes; not inlined, so that the code of calls that begin afresh stays small.
+/// Runs an item's parser as `parse_item` does, in a call that resumes; apart, so that the code of calls that begin afresh stays small.
 #[inline(never)]
 pub(super) fn resume_item<
     Input: Stream,

@@ -1,4 +1,4 @@
-//! Names of [`Repeat`](crate::counts::Repeat) for the functions of this module.
+//! Names of [`Repeat`](crate::counts::Repeat) for `many`, `many1` and their skipping forms.
 use crate::bounds::{FirstThenMore, ZeroOrMore};
 use crate::counts::Repeat;
 use crate::each::{Dropped, Each};

@@ -1,4 +1,4 @@
-//! The parsers that the functions of this module return.
+//! The parsers that `chainl1`, `chainr1` and `escaped` return.
 ghost use Rattle.std.specs.Prelude.{◌≡◌};
 ghost use Rattle.combine_base.specs.Parser.GivenValues.{GivesOnly};
 ghost use Rattle.combine_base.specs.Parser.ValueMap.{mapped_is_meaning, mapped_means_one};

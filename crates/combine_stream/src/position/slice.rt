@@ -34,7 +34,7 @@ impl<'a, T> Copy for SliceStream<'a, T> {}
 impl<'a, T: Copy> SliceStream<'a, T> {
     ghost use Rattle.combine_stream.specs.Position.IndexedSlices.{indexed_view};
 
-    // Returns the unread tokens.
+    /// Returns the unread tokens.
     #[inline(always)]
     fn unread(&self) -> &'a [T]
         ensures { result.now ≡ (indexed_view self.now).unread }

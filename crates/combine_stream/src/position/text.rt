@@ -53,7 +53,7 @@ impl fmt::Display for SourcePosition {
 }
 
 impl SourcePosition {
-    // Returns the position after a character.
+    /// Returns the position after a character.
     #[inline(always)]
     fn after(self, character: char) -> SourcePosition
         requires { CountsFit self 1 }
@@ -68,7 +68,7 @@ impl SourcePosition {
         }
     }
 
-    // Returns the beginning of the next line: a call, so that the loop over the characters of a line stays small.
+    /// Returns the beginning of the next line: a call, so that the loop over the characters of a line stays small.
     #[cold]
     #[inline(never)]
     fn next_line(self) -> SourcePosition
@@ -107,7 +107,7 @@ impl<'a> DefaultPositioned for &'a str {
 
     #[inline]
     fn place(self) -> TextStream<'a> {
-        // brings the bound on the length into scope
+        // Brings the bound on the length into scope.
         let _size = self.len();
         TextStream {
             rest: self,
@@ -297,7 +297,7 @@ impl<'a> RangeStream for TextStream<'a> {
 
 // The steps below are functions of their own, since a `&str` parameter is known to be text.
 
-// Returns the first character and the rest.
+/// Returns the first character and the rest.
 #[inline(always)]
 fn split_first_char<'a>(rest: &'a str, place: SourcePosition) -> Option<(char, TextStream<'a>)>
     requires { CountsFit place (length rest.now) }
@@ -315,7 +315,7 @@ fn split_first_char<'a>(rest: &'a str, place: SourcePosition) -> Option<(char, T
     }
 }
 
-// Returns the stream of a rest at its position; a `&str` has fewer than 2^64 characters.
+/// Returns the stream of a rest at its position; a `&str` has fewer than 2^64 characters.
 #[inline(always)]
 fn here<'a>(rest: &'a str, place: SourcePosition) -> TextStream<'a>
     requires { CountsFit place (length rest.now) }
@@ -326,7 +326,7 @@ fn here<'a>(rest: &'a str, place: SourcePosition) -> TextStream<'a>
     TextStream { rest, place }
 }
 
-// Returns the position after a text.
+/// Returns the position after a text.
 fn place_after(place: SourcePosition, text: &str) -> SourcePosition
     requires { CountsFit place (length text.now) }
     ensures place { result ≡ after_all next_place place (chars text.now) }
@@ -345,7 +345,7 @@ fn place_after(place: SourcePosition, text: &str) -> SourcePosition
     }
 }
 
-// Returns the first n bytes and the rest.
+/// Returns the first n bytes and the rest.
 #[inline(always)]
 fn take_range<'a>(
     rest: &'a str,
@@ -361,7 +361,7 @@ fn take_range<'a>(
     }
 }
 
-// Returns whether a later rest of a text differs from an earlier one.
+/// Returns whether a later rest of a text differs from an earlier one.
 #[inline(always)]
 fn has_advanced(from: &str, to: &str) -> bool
     ensures { (k : ℕ) → k ≤ length (chars from.now) → chars to.now ≡ drop k (chars from.now) → result ≡ nat_lt 0 k }
@@ -376,7 +376,7 @@ fn byte_distance(from: &str, to: &str) -> usize
     from.len().saturating_sub(to.len())
 }
 
-// Returns whether a text may be cut at a place.
+/// Returns whether a text may be cut at a place.
 #[inline]
 fn may_cut(text: &str, place: usize) -> bool
     ensures { (result ≡ true) ↔ (IsUtf8 text.now × IsCharBoundary text.now place) }
@@ -384,7 +384,7 @@ fn may_cut(text: &str, place: usize) -> bool
     text.is_char_boundary(place)
 }
 
-// Returns the first place of a text.
+/// Returns the first place of a text.
 #[inline]
 fn text_start(text: &str) -> usize
     ensures place { IsUtf8 text.now × IsCharBoundary text.now result }
@@ -393,7 +393,7 @@ fn text_start(text: &str) -> usize
     0
 }
 
-// Returns the last place of a text.
+/// Returns the last place of a text.
 #[inline]
 fn text_end(text: &str) -> usize
     ensures place { IsUtf8 text.now × IsCharBoundary text.now result }
@@ -402,7 +402,7 @@ fn text_end(text: &str) -> usize
     text.len()
 }
 
-// Returns the part between two places of a text, at the position of the first.
+/// Returns the part between two places of a text, at the position of the first.
 #[inline]
 fn part_of<'a>(text: &'a str, from: usize, to: usize, place: SourcePosition) -> TextStream<'a>
     requires from { IsCharBoundary text.now from }
@@ -412,14 +412,14 @@ fn part_of<'a>(text: &'a str, from: usize, to: usize, place: SourcePosition) -> 
     ensures rest { chars result.rest.now ≡ drop (index_of text.now from) (take (index_of text.now to) (chars text.now)) }
     ensures place { result.place ≡ place }
 {
-    // brings the bound on the length into scope
+    // Brings the bound on the length into scope.
     let _size = text.len();
     let (front, _after) = text.split_at(to);
     let (_before, rest) = front.split_at(from);
     TextStream { rest, place }
 }
 
-// Returns the place of the unread rest of a part that ends at a place.
+/// Returns the place of the unread rest of a part that ends at a place.
 #[inline]
 fn end_within(text: &str, to: usize, rest: &str) -> usize
     requires { IsCharBoundary text.now to }
@@ -428,7 +428,7 @@ fn end_within(text: &str, to: usize, rest: &str) -> usize
     to.saturating_sub(rest.len())
 }
 
-// Returns the number of characters before a place of a text, from the number before an earlier one.
+/// Returns the number of characters before a place of a text, from the number before an earlier one.
 #[inline]
 fn count_chars_to(text: &str, to: usize, from: usize, before: usize) -> usize
     requires from { IsCharBoundary text.now from }
@@ -442,7 +442,7 @@ fn count_chars_to(text: &str, to: usize, from: usize, before: usize) -> usize
     before + count_characters(between)
 }
 
-// Returns the number of characters of a text.
+/// Returns the number of characters of a text.
 fn count_characters(text: &str) -> usize
     ensures { result ≡ length (chars text.now) }
 {

@@ -70,10 +70,10 @@ impl<'a, T: Copy> RangeStream for &'a [T] {
     }
 }
 
-// This many tokens are tested between two tests of the length.
+/// This many tokens are tested between two tests of the length.
 const BLOCK: usize = 8;
 
-// Returns the number of tokens of the longest beginning that passes a test.
+/// Returns the number of tokens of the longest beginning that passes a test.
 #[inline(always)]
 pub(crate) fn count_while<T: Copy, F: Function<T, Output = bool>>(tokens: &[T], f: &F) -> usize
     requires { (t : T) → F.callable f.now t }
@@ -97,7 +97,7 @@ pub(crate) fn count_while<T: Copy, F: Function<T, Output = bool>>(tokens: &[T], 
     }
 }
 
-// Returns the same as `count_while`, token by token.
+/// Returns the same as `count_while`, token by token.
 #[inline(always)]
 fn count_each<T: Copy, F: Function<T, Output = bool>>(tokens: &[T], f: &F) -> usize
     requires { (t : T) → F.callable f.now t }

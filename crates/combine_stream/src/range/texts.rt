@@ -70,7 +70,7 @@ impl<'a> RangeStream for &'a str {
 
 // The steps below are functions of their own, since a `&str` parameter is known to be text.
 
-// Returns the first n bytes and the rest.
+/// Returns the first n bytes and the rest.
 #[inline(always)]
 pub(crate) fn cut(text: &str, n: usize) -> Result<(&str, &str), Kind>
     ensures { MatchResult result (λ p. (k : ℕ) × Cut text.now n k p.0.now p.1.now) (λ why. uncut text.now n why) }
@@ -98,7 +98,7 @@ fn all(text: &str) -> &str
     text
 }
 
-// Returns the number of bytes of the longest beginning that passes a test.
+/// Returns the number of bytes of the longest beginning that passes a test.
 #[inline(always)]
 pub(crate) fn bytes_while<F: Function<char, Output = bool>>(text: &str, f: &F) -> usize
     requires { (t : ℕ) → F.callable f.now t }

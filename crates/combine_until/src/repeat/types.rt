@@ -1,4 +1,4 @@
-//! The parsers that the functions of this module return.
+//! The parsers of blocks up to a place.
 ghost use Rattle.combine_choice.specs.Choice.Or.{or_valid};
 ghost use Rattle.combine_until.specs.Next.{next_is_meaning, next_once};
 ghost use Rattle.combine_until.specs.Until.{some_appended, some_dropped, until_valid, until_is_meaning, until_means_one};
