@@ -44,7 +44,7 @@ module _ {P T A E : Type 0} (turned : A → Result ℕ E → Type 0) (r : Readin
     pub accepted : r v (Accepted value count committed)
     pub none : FitsNone turned value
 
-  -- no length was read: the part refuses, or a value was read that is none
+  -- no length was read: the part refuses, or the value read doesn't convert to one
   abbrev pub LacksLength : Bool → Type 0
   LacksLength committed = r v (Refused committed) ⊎ ReadsNone committed
 
@@ -100,7 +100,7 @@ module _ {P T A X R E : Type 0} (step : P → T → P) (observers : Observers T 
     pub made : RefusesLength observers size spells length w w false own
     pub explained : AddsItems observers (Unit {0}) (AtToken AddsNothing w.unread) own e
 
-  -- the error of a refusal: the part's if no length was read, or the error of a value that is none; or one after a length
+  -- the error of a refusal: the part's if no length was read, or the error of a value that doesn't convert; or one after a length
   pub data RefusesPrefixed (part : Refusing P T E) (v w : View P T) (committed : Bool) (e : E) : Type 0 where
     Part : MeantRefusal r part v w committed e → RefusesPrefixed part v w committed e
     NoLength : LacksLength turned r v committed → SaysNone v w committed e → RefusesPrefixed part v w committed e

@@ -141,7 +141,7 @@ pub fn request_head<I, R>(alloc: Global) -> RequestHead<I, R> {
     map(parts, ToHead)
 }
 
-/// Reads a head. Where there is none, the stream is left at the place of the mistake.
+/// Reads a head. If there is none, the stream is left at the place of the mistake.
 pub fn read_head<I: RangeStream<Token = u8>>(
     alloc: Global,
     input: &mut I,

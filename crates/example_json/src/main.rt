@@ -85,7 +85,7 @@ fn run(rt: &HostRuntime) -> io::Result<ExitCode> {
     check(rt, options, &input)
 }
 
-/// Prints the input as a document, or why it is none.
+/// Prints the input as a document, or why it isn't one.
 fn check(rt: &HostRuntime, options: Options, input: &[u8]) -> io::Result<ExitCode> {
     let alloc = rt.alloc();
     let pieces: Vec<&[u8]> = input.chunks(options.piece.max(1)).collect(alloc)?;

@@ -7,7 +7,7 @@ use crate::texts::unescape;
 use combine::nested::{Frame, Next};
 use std::alloc::{AllocError, Global};
 
-/// What comes of what is open.
+/// The result of an item.
 type Then = Result<Next<Open, Document>, AllocError>;
 
 /// An array or an object that is open, or the whole. The innermost has the nodes of the document so far.
@@ -20,7 +20,7 @@ pub struct Open {
 }
 
 impl Open {
-    /// Returns the whole, of which nothing was read.
+    /// Returns the whole, before its first item.
     pub fn new(alloc: Global) -> Open {
         let nodes = Vec::new(alloc);
         Open {
@@ -30,7 +30,7 @@ impl Open {
         }
     }
 
-    /// Goes on at this place, if there is one.
+    /// Continues at this place, if there is one.
     fn go_on(self, place: Option<Place>) -> Then {
         match place {
             Some(Place::End) => Ok(Next::Close(self.nodes)),

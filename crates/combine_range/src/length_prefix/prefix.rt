@@ -13,7 +13,7 @@ use combine_function::combinator::ValueChange;
 use combine_sequence::sequence::types::NextParser;
 use std::marker::PhantomData;
 
-/// Converts the value to a `usize`, and refuses one that is none. Our own.
+/// Converts the value to a `usize`, and refuses one that doesn't convert. Our own.
 #[derive(Clone, Copy, Drop)]
 pub struct AsLength;
 
