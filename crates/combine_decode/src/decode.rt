@@ -103,9 +103,9 @@ pub struct Decoder<F: Maker<Output = P>, P: Parser<fed::Stream<T>>, T: Copy + 's
     maker: F,
     session: Session<P, T>,
     phase: Phase,
-    // how many tokens there are after the last message
+    /// The number of tokens after the last message.
     waiting: usize,
-    // how many of them there may be, with a piece
+    /// The greatest such number, with a piece.
     limit: usize,
 }
 

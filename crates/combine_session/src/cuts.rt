@@ -42,9 +42,9 @@ type Parsed<T, S> = Result<
     Kind,
 >;
 
-// Runs a parser once on the window from the first unread token to a place.
-//
-/// Parses one window. The run is passed and returned by value, so that the stream is a local while the parser reads.
+/// Runs a parser once on the window from the first unread token to a place.
+///
+/// The run is passed and returned by value, so that the stream is a local while the parser reads.
 fn parse_window<S: Windowed, P: Parser<MaybePartialStream<S::Located>>>(
     parser: &mut P,
     state: &mut P::PartialState,

@@ -53,11 +53,11 @@ impl<S: Unfailing> Unfailing for MaybePartialStream<S> {
 /// When a call of one kind fails.
 #[derive(Drop)]
 enum Due {
-    // None fails.
+    /// None fails.
     Never,
-    // The one after that many others fails.
+    /// The one after that many others fails.
     After(u64),
-    // One has failed.
+    /// One has failed.
     Past,
 }
 

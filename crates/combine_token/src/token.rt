@@ -26,7 +26,7 @@ pub use lists::{match_list, tokens, tokens_cmp};
 ///
 /// # Partial input
 ///
-/// The end of open input is need of more.
+/// The end of an open piece is need of more.
 ///
 /// # Examples
 ///
@@ -56,7 +56,7 @@ pub fn any<Input>() -> Any<Input>
 ///
 /// # Partial input
 ///
-/// The end of open input is need of more.
+/// The end of an open piece is need of more.
 ///
 /// # Differences from combine
 ///
@@ -93,7 +93,7 @@ pub fn satisfy<Input, F>(predicate: F) -> Satisfy<Input, F>
 ///
 /// # Partial input
 ///
-/// The end of open input is need of more.
+/// The end of an open piece is need of more.
 ///
 /// # Differences from combine
 ///
@@ -135,7 +135,7 @@ pub fn satisfy_map<Input, F>(predicate: F) -> SatisfyMap<Input, F>
 ///
 /// # Partial input
 ///
-/// The end of open input is need of more.
+/// The end of an open piece is need of more.
 ///
 /// # Examples
 ///
@@ -244,7 +244,7 @@ pub fn produce<Input, F>(f: F) -> Produce<Input, F>
 ///
 /// # Partial input
 ///
-/// The end of open input is need of more.
+/// The end of an open piece is need of more.
 ///
 /// # Differences from combine
 ///

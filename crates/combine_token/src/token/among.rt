@@ -21,7 +21,7 @@ use types::{Listed, NoneOf, OneOf};
 ///
 /// # Partial input
 ///
-/// The end of open input is need of more.
+/// The end of an open piece is need of more.
 ///
 /// # Differences from combine
 ///

@@ -26,7 +26,7 @@ use types::{Tokens, TokensCmp, TokensState};
 ///
 /// # Errors
 ///
-/// - A token that doesn't fit, or the end of ended input, refuses: peeked if no token was matched before it, else committed.
+/// - A token that doesn't fit, or the end of ended input, is refused: peeked if no token was matched before it, else committed.
 /// - A clone of the list that is out of memory is the fault `Memory`.
 ///
 /// # Partial input

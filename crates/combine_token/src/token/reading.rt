@@ -22,7 +22,7 @@ use combine_base::stream::{Kind, Stream};
 ///
 /// # Partial input
 ///
-/// The end of open input is need of more, and nothing is taken.
+/// The end of an open piece is need of more, and nothing is taken.
 #[inline(always)]
 pub fn one_token<B, Input: Stream, F: FnOnce(Option<Input::Token>) -> Option<B>>(
     test: F,
