@@ -58,7 +58,7 @@ module _ (so_far count byte : ℕ) (c : count < 8) (h : so_far < 256 ^ count) (b
       let a = at_most byte (256 ^ count) b in
       (omega (arith, p, h, a), omega (arith, m, h, a), omega (arith, m, h, a))
 
-  -- no bit is lost where a byte is shifted to its place
+  -- no bit is lost if a byte is shifted to its place
   pub shifted : byte * 2 ^ (8 * count) % 2 ^ 64 ≡ byte * 256 ^ count
   shifted =
       let e = ap (λ k. byte * k) (shift_power count) in

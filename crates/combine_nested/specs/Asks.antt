@@ -16,7 +16,7 @@ always_with_of m = record { 0 = m }
 abbrev pub if_else_of : {C A B : Type 0} → C → A → B → IfElse C A B
 if_else_of c a b = record { 0 = c; 1 = a; 2 = b }
 
--- the first's where the test may be true, and the second's where it may be false
+-- the first's if the test may be true, and the second's if it may be false
 abbrev pub asked_either : {F N M : Type 0} → (F → Bool → Type 0) → (F → N → Type 0) → (F → M → Type 0) → F → Either N M → Type 0
 asked_either tells a b f (Left n) = tells f true × a f n
 asked_either tells a b f (Right m) = tells f false × b f m

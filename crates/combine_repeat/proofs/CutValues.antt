@@ -25,7 +25,7 @@ past_block_with step m m' laws h first again s s' k v u b e d j q x i f bs l t =
     past_block step m m' h first again s s' (extended x i v) (extended x i u) b e (decided_stays (begun m first s) r v x i (outcome b) f tt d) j (ap (extended x i) q ∙ sym (advanced_extended step b.count x i v (r.within v b.value b.count b.committed d))) bs l t
 
 module _ {P T R E A S : Type 0} (step : P → T → P) (m : Meaning P T R E A S) (first : Bool) (s s' : S) (n : ℕ) (old new : View P T) (taken : Takes step n old new) (r : Resumes (begun m first s) (m.rest s') n old new) where
-  -- where a resumed turn stops the turns, the whole turn does
+  -- if a resumed turn stops the turns, so does the whole turn
   stops_whole : (o : Outcome A) (l : Outcome (Unit {0})) → judged Unbounded no_value_ends (iter_turn_place false) o ≡ StopsTurns l → judged Unbounded no_value_ends (iter_turn_place first) (after n false o) ≡ StopsTurns l
   stops_whole (Accepted a c true) l e = absurd (cc)
   stops_whole (Accepted a c false) l e = e
@@ -33,7 +33,7 @@ module _ {P T R E A S : Type 0} (step : P → T → P) (m : Meaning P T R E A S)
   stops_whole (Refused false) l e = e
   stops_whole Undecided l e = e
 
-  -- and where it is a block, the whole turn is, if it takes a token in all or is itself resumed
+  -- and if it is a block, so is the whole turn, provided it takes a token in all or is itself resumed
   goes_whole : (b : Block A) → judged Unbounded no_value_ends (iter_turn_place false) (outcome b) ≡ TakesBlock → (first ≡ true → 0 < n + b.count) → is_block_at Unbounded (iter_turn_place first) (n + b.count) b.committed ≡ true
   goes_whole b e t = by_kind b.committed e first t
     where

@@ -1,4 +1,4 @@
--- one outcome, where one parser is returned for each item and each has one outcome
+-- one outcome, if one parser is returned for each item and each has one outcome
 use Rattle.std.proofs.Common.{◌≡◌, subst}
 use Rattle.combine_base.specs.Parser.Meaning.{IsSingle, Reading}
 use Rattle.combine_repeat.specs.ItemParsers as items

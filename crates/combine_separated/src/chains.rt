@@ -89,7 +89,7 @@ pub fn chainr1<P, S>(alloc: Global, parser: P, operator: S) -> Chainr1<P, S>
     no_partial(Chain::new(FromRight(alloc), parser, operator))
 }
 
-/// Skips turns of `parser` or, where it is refused peeked, of the token `escape` and then `escaped`.
+/// Skips turns of `parser` or, if it is refused peeked, of the token `escape` and then `escaped`.
 ///
 /// It is `skip_many` of a choice. If `parser` is refused peeked, and the next token isn't `escape` or ended input has no token left, the turns end, accepted, committed exactly if there was a turn.
 ///

@@ -59,7 +59,7 @@ scalars_drop zero cs h = h
 scalars_drop (suc k) [] h = h
 scalars_drop (suc k) (c ∷ cs) h = scalars_drop k cs (right_of (scalar c) (scalars cs) h)
 
--- where a text can't be cut, no character ends
+-- at a place where a text can't be cut, no character ends
 pub text_inside : (bytes : List ℕ) (n : ℕ) → IsUtf8 bytes → n ≤ length bytes → (IsCharBoundary bytes n → ⊥) → EndsInsideToken len_utf8 (chars bytes) n
 text_inside bytes n u h b = record {
   enough = let a = text_size bytes u in omega arith;

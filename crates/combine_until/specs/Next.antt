@@ -1,4 +1,4 @@
--- the parser at each place: one whose acceptance ends the blocks, and where it is refused peeked, the parser of a block
+-- the parser at each place: one whose acceptance ends the blocks, and if it is refused peeked, the parser of a block
 use Rattle.std.specs.Prelude.{ℕ, ◌≡◌, Bool, true, false, Option, Some, None, refl, is_none}
 use Rattle.std.proofs.Common.{sym, ◌∙◌}
 use Rattle.combine_base.specs.Stream.View.{View}

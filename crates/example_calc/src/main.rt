@@ -150,7 +150,7 @@ fn main(rt: HostRuntime) -> ExitCode {
     CALC.run(&rt, |(): ()| print_values(&rt))
 }
 
-/// Prints the value of each line, or why and where it has none.
+/// Prints the value of each line, or the reason why and the place where it has none.
 fn print_values(rt: &HostRuntime) -> io::Result<ExitCode> {
     let mut status = ExitCode::SUCCESS;
     let lines = BufReader::new(rt.alloc(), rt.reader())?.lines(rt.alloc());

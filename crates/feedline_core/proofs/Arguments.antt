@@ -16,7 +16,7 @@ prefix_missing (p ∷ ps) (b ∷ bs) h = by_test (nat_eq p b) refl (λ same. pre
     by_test true e f = f ((Decides-eqb p b).0 e)
     by_test false e f = refl
 
--- the rest after `limit=`, where a word begins so
+-- the rest after `limit=`, if a word begins with it
 pub digits_behind : (word : List ℕ) (r : Option (Bor (List ℕ))) → MatchOption r ((rest : List ℕ) → word ≢ codes "limit=" ++ rest) (λ x. word ≡ codes "limit=" ++ x.now) → MatchOption r (limit_digits word ≡ None) (λ digits. limit_digits word ≡ Some digits.now)
 digits_behind word None h = prefix_missing (codes "limit=") word h
 digits_behind word (Some x) h = ap (without_prefix (codes "limit=")) h ∙ prefix_there (codes "limit=") x.now

@@ -19,7 +19,7 @@ joined_whole [] [] = refl
 joined_whole [] (b ∷ bs) = append-nil (b ∷ bs)
 joined_whole (n ∷ ns) input = ap (λ z. take n input ++ z) (joined_whole ns (drop n input)) ∙ take-append-drop n input
 
--- the first pieces are as many bytes as the sum of their sizes, where there are as many
+-- the first pieces are as many bytes as the sum of their sizes, if there are as many
 joined_first : (sizes input : List ℕ) (k : ℕ) → k ≤ length sizes → concatenated (take k (pieces_of sizes input)) ≡ take (sum (take k sizes)) input
 joined_first sizes input zero h = refl
 joined_first [] input (suc k) h = absurd (omega arith)

@@ -3,7 +3,7 @@ use Rattle.std.specs.Prelude.{ℕ, List, [], ◌∷◌, Bool, true, false, nat_e
 use Rattle.std.specs.Str.{bytes_eq}
 use Rattle.feedline_core.specs.Sizes.{size_of_word, sizes_of}
 
--- the rest after these bytes, where a word begins with them
+-- the rest after these bytes, if a word begins with them
 abbrev pub without_prefix : List ℕ → List ℕ → Option (List ℕ)
 without_prefix [] word = Some word
 without_prefix (p ∷ ps) [] = None

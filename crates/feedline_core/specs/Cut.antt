@@ -1,7 +1,7 @@
 -- the pieces that an input is fed in
 use Rattle.std.specs.Prelude.{ℕ, List, [], ◌∷◌, take, drop}
 
--- the rest is a piece where it isn't empty
+-- the rest is a piece if it isn't empty
 abbrev pub rest_of : List ℕ → List (List ℕ)
 rest_of [] = []
 rest_of (b ∷ bs) = (b ∷ bs) ∷ []

@@ -16,7 +16,7 @@ abbrev pub refused_line : Bool → List ℕ
 refused_line true = codes "refused committed\n"
 refused_line false = codes "refused peeked\n"
 
--- the line of a decision; there is none where more is needed
+-- the line of a decision; there is none if more is needed
 abbrev pub decision_line : Outcome Message → List ℕ
 decision_line (Accepted m n k) = accepted_line m n
 decision_line (Refused k) = refused_line k
@@ -31,7 +31,7 @@ abbrev pub hexadecimal : List ℕ → List ℕ
 hexadecimal [] = []
 hexadecimal (b ∷ bs) = (hexadecimal_digit (b / 16) ∷ hexadecimal_digit (b % 16) ∷ []) ++ hexadecimal bs
 
--- the digits after a blank, where there are any
+-- the digits after a blank, if there are any
 abbrev pub behind_blank : List ℕ → List ℕ
 behind_blank [] = []
 behind_blank (b ∷ bs) = codes " " ++ hexadecimal (b ∷ bs)

@@ -74,7 +74,7 @@ delete = delete_after del
 abbrev pub set : Meaning ℕ ℕ (Unit {0}) UnexpectedParse Message SetState
 set = mapped (tuple_4 step no_items word (byte_meaning 61) digits (byte_meaning 59)) (λ parts m. m ≡ Set parts.0 parts.2)
 
--- this parser, or `set` where it is refused peeked
+-- this parser, or `set` if it is refused peeked
 abbrev pub or_set : {S : Type 0} → Meaning ℕ ℕ (Unit {0}) UnexpectedParse Message S → Meaning ℕ ℕ (Unit {0}) UnexpectedParse Message (OrState S SetState)
 or_set first = either_of (both_merged {T = ℕ} {R = Unit {0}} no_items nat_cmp) first set
 

@@ -48,7 +48,7 @@ pub fn read_args(alloc: Global, words: &[&str]) -> Result<Args, Fault>
     }
 }
 
-/// Returns the rest after `limit=`, where a word begins so.
+/// Returns the rest after `limit=`, if a word begins with it.
 fn limit_digits(word: &[u8]) -> Option<&[u8]>
     ensures { MatchOption result (limit_digits word.now ≡ None) (λ digits. limit_digits word.now ≡ Some digits.now) }
 {

@@ -1,4 +1,4 @@
--- need of more, exactly where a reading is undecided
+-- need of more, exactly if a reading is undecided
 use Rattle.std.specs.Prelude.{◌⊎◌}
 use Rattle.combine_base.specs.Stream.View.{View}
 use Rattle.combine_base.specs.Parser.DriverAnswers.{NeedsMore}

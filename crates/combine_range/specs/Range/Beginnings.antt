@@ -160,6 +160,6 @@ module _ {P T R : Type 0} (size : T → ℕ) (spells : R → List T → Type 0) 
             refusing (Split a) = absurd (a.none (length v.unread) (end_place size f filled v.unread x))
         going Undecided p = record { all = on (length (v.unread ++ x)) p.all; is_open = p.is_open }
 
--- an empty one is refused where `some` is true
+-- an empty one is refused if `some` is true
 abbrev pub takes_beginning : {P T R E Q : Type 0} → Observers T R P E → (T → ℕ) → (Q → List T → Type 0) → (T → Bool → Type 0) → (some : Bool) → Meaning P T R E Q Distance
 takes_beginning errors size spells f some = kept size (beginning size spells f some) AddsNothing (RefusesKept errors size (refuses_beginning errors f some))

@@ -100,7 +100,7 @@ module _ {A V : Type 0} (c : Collecting A V) where
   HoldsCollected Undecided h = Unit {0}
 
 module _ {P T A V Mark : Type 0} (step : P → T → P) (rule : Rule A Mark) (c : Collecting A V) (turn : Mark → Reading P T A) where
-  -- the outcome of turns, where a turn runs and there are some blocks already
+  -- the outcome of turns, if a turn runs and there are some blocks already
   pub record TurnsOutcome (running : Reading P T A) (so_far : TurnsSoFar Mark c.Held) (v : View P T) (o : Outcome V) : Type 0 where
     pub blocks : List (Block A)
     pub last : Outcome (Unit {0})

@@ -35,7 +35,7 @@ where
     ensures turns { OperandsAreOneThenTurns Input.step Input.Error.observers (P.meaning parser.now) (S.meaning operator.now) }
 {}
 
-/// `escaped` means blocks under the rule of `many`. Each is a run of `parser` or, where it is refused peeked, the token `escape` and a run of `escaped`.
+/// `escaped` means blocks under the rule of `many`. Each is a run of `parser` or, if it is refused peeked, the token `escape` and a run of `escaped`.
 pub fn escaped_is_blocks<Input: Stream, P: Parser<Input>, Q: Parser<Input>>(
     parser: &P,
     escape: Input::Token,
