@@ -296,7 +296,7 @@ impl Stage {
     }
 }
 
-/// The steps of a session, over its parts.
+// The steps of a session, over its parts.
 impl<P: Parser<fed::Stream<T>>, T: Copy + 'static> Session<P, T> {
     ghost use Rattle.std.specs.Prelude.{List, Bool, Option};
     ghost use Rattle.combine_base.specs.Stream.View.{extended};
