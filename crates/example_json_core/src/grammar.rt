@@ -1,4 +1,4 @@
-//! The grammar of one step: an item and the blanks around it. `I` is the stream.
+//! The grammar of one step. `I` is the stream.
 
 use crate::place::Place;
 use combine::parser::choice::or;
@@ -9,22 +9,24 @@ use combine::parser::repeat::types::{SkipMany, SkipMany1};
 use combine::parser::sequence::skip;
 use combine::parser::sequence::types::Skip;
 use combine::parser::token::types::{Satisfy, Token};
-use combine::{Function, Parser, eof, one_of, optional, satisfy, skip_many, skip_many1, token};
+use combine::{
+    Function, Parser, UnexpectedParse, eof, one_of, optional, satisfy, skip_many, skip_many1, token,
+};
 use std::alloc::Global;
 
 /// A class of bytes.
 #[derive(Clone, Copy, Drop)]
 pub enum Class {
     Blank,
-    /// Bytes of numbers and words.
+    /// A byte of a number or a word.
     Bare,
-    /// Bytes of a text that mean themselves.
+    /// A byte of a text that isn't escaped.
     Plain,
-    /// Bytes after a backslash.
+    /// The byte after a backslash.
     Escape,
     /// A comma, a colon or a bracket.
     Sign,
-    /// The comma or the colon that may come next at a place.
+    /// A blank, or the comma or the colon that may follow the part at a place.
     After(Place),
 }
 
@@ -47,7 +49,7 @@ impl Function<u8> for Class {
     }
 }
 
-/// A text with its quotes, a number or a word, as the input has it, and the comma or the colon after it; or no bytes, and a sign.
+/// A text with its quotes, a number or a word, unchanged, and the blank, the comma or the colon after it; or no bytes, and a sign.
 pub type Item = (Vec<u8>, Option<u8>);
 
 /// Makes an item of a sign alone.
@@ -67,7 +69,7 @@ pub type Byte<I> = Satisfy<I, Class>;
 
 pub type Blanks<I> = SkipMany<Byte<I>>;
 
-/// Parses the blanks between parts.
+/// Parses blanks.
 pub fn blanks<I>() -> Blanks<I> {
     skip_many(satisfy(Class::Blank))
 }
@@ -91,7 +93,7 @@ pub type Step<I> = Skip<
     Item,
 >;
 
-/// Parses the next item at a place, and blanks.
+/// Parses the item at a place, and blanks.
 pub fn step<I>(alloc: Global, place: Place) -> Step<I> {
     let part = or(ignore(text()), skip_many1(satisfy(Class::Bare)));
     let after = optional(satisfy(Class::After(place)));
@@ -99,8 +101,8 @@ pub fn step<I>(alloc: Global, place: Place) -> Step<I> {
     skip(or((recognize(alloc, part), after), sign), blanks())
 }
 
-/// Returns whether these bytes are a number.
-pub fn is_number(bytes: &[u8]) -> bool {
+/// Reads a number. The error is of kind `End` if it ends too soon.
+pub fn read_number(bytes: &[u8]) -> Result<(), UnexpectedParse> {
     let digits = || skip_many1(satisfy(|byte: u8| byte.is_ascii_digit()));
     let whole = or(ignore(token(b'0')), digits());
     let fraction = optional((token(b'.'), digits()));
@@ -110,5 +112,5 @@ pub fn is_number(bytes: &[u8]) -> bool {
         digits(),
     ));
     let mut number = (optional(token(b'-')), whole, fraction, exponent, eof());
-    number.parse(bytes).is_ok()
+    number.parse(bytes).map(|_| ())
 }

@@ -1,20 +1,22 @@
-//! Open arrays and objects, and the effect of each item in them.
+//! The frames of a document: open arrays and objects.
 
-use crate::grammar::{Item, is_number};
+use crate::grammar::{Item, read_number};
 use crate::node::{Document, Node};
 use crate::place::Place;
 use crate::texts::unescape;
+use combine::error::UnexpectedParse;
 use combine::nested::{Frame, Next};
+use combine::stream::Kind;
 use std::alloc::{AllocError, Global};
 
-/// The result of an item.
+/// The next state of a frame.
 type Then = Result<Next<Open, Document>, AllocError>;
 
-/// An array or an object that is open, or the whole. The innermost has the nodes of the document so far.
+/// An open array or object, or the whole. The innermost has the nodes of the document so far.
 #[derive(Drop)]
 pub struct Open {
     alloc: Global,
-    /// What may come next.
+    /// Where the next item comes.
     pub place: Place,
     nodes: Document,
 }
@@ -50,20 +52,14 @@ impl Open {
             (_, place) => return self.go_on(place.after_sign(sign)),
         };
         self.nodes.push(node)?;
-        let Some(inside) = place else {
+        let Some(place) = place else {
             return Ok(Next::Close(self.nodes));
         };
         let around = Open {
             place: self.place,
             ..Open::new(self.alloc)
         };
-        Ok(Next::Open(
-            around,
-            Open {
-                place: inside,
-                ..self
-            },
-        ))
+        Ok(Next::Open(around, Open { place, ..self }))
     }
 }
 
@@ -86,8 +82,11 @@ impl Frame for Open {
             b"null" => Node::Null,
             b"true" => Node::Bool(true),
             b"false" => Node::Bool(false),
-            number if is_number(number) => Node::Number(bytes),
-            _ => return self.go_on(None),
+            number => match (read_number(number), sign) {
+                (Ok(()), _) => Node::Number(bytes),
+                (Err(UnexpectedParse(Kind::End)), None) => return self.go_on(Some(Place::Digits)),
+                _ => return self.go_on(None),
+            },
         };
         self.nodes.push(node)?;
         let place = self.place.after();

@@ -1,6 +1,6 @@
-//! The places of a document, by what may come next.
+//! What may come next, by what was read.
 
-/// A place in an open array, in an open object or in the whole, by what may come next.
+/// What may come next where an array, an object or the whole is open.
 #[derive(Clone, Copy)]
 pub enum Place {
     /// The whole: a value.
@@ -21,6 +21,8 @@ pub enum Place {
     Value,
     /// After an entry's value: a comma, or the object's end.
     ValueEnd,
+    /// After a number that ended too soon: a digit, which can't come, since the number would have it.
+    Digits,
     /// After the whole's value: nothing.
     End,
 }
@@ -42,17 +44,18 @@ impl Place {
         }
     }
 
-    /// Returns the place after a comma or a colon, if it may come here.
+    /// Returns the place after a comma or a colon, if it may come here, or after a blank.
     pub fn after_sign(self, sign: u8) -> Option<Place> {
         match (self, sign) {
             (Place::ElementEnd, b',') => Some(Place::Element),
             (Place::ValueEnd, b',') => Some(Place::Name),
             (Place::NameEnd, b':') => Some(Place::Value),
+            (_, b' ' | b'\t' | b'\n' | b'\r') => Some(self),
             _ => None,
         }
     }
 
-    /// Returns the message for any other byte here.
+    /// Returns the message of a refusal of anything else here.
     pub fn expected(self) -> &'static str {
         match self {
             Place::Whole | Place::Element | Place::Value => "value expected",
@@ -62,6 +65,7 @@ impl Place {
             Place::Name => "name expected",
             Place::NameEnd => "colon expected",
             Place::ValueEnd => "comma or } expected",
+            Place::Digits => "digit expected",
             Place::End => "end expected",
         }
     }

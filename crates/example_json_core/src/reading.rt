@@ -1,4 +1,4 @@
-//! The reader: the grammar over a slice, a text, pieces, and with readable errors.
+//! The reader: the grammar over a slice, a text, pieces, and with errors that can be read.
 
 use crate::grammar::{blanks, step};
 use crate::node::Document;
@@ -9,10 +9,10 @@ use combine::stream::position;
 use combine::{ParseError, Parser, Stream, UnexpectedParse, between, easy, eof};
 use std::alloc::Global;
 
-/// Why an input is refused, and after how many bytes.
+/// The reason why an input is refused, and the number of bytes before that.
 pub type JsonError<'a> = easy::Errors<u8, &'a [u8], usize>;
 
-/// Reads a stream that is one document.
+/// Reads a document from a stream.
 fn read<I: Stream<Token = u8>>(alloc: Global, depth: usize, input: I) -> Result<Document, I::Error>
 where
     I::Error: ParseError<u8, I::Range, I::Position>,
@@ -23,21 +23,21 @@ where
     Ok(document)
 }
 
-/// Reads a slice that is one document.
+/// Reads a document from a slice.
 ///
 /// # Errors
 ///
-/// It is refused if it isn't one value of RFC 8259, has more than `depth` arrays and objects inside one another, or has half of a pair of surrogates.
+/// The input is refused if it isn't one value of RFC 8259, if arrays and objects nest more than `depth` deep, and if a text has half of a pair of surrogates.
 pub fn read_slice(alloc: Global, depth: usize, input: &[u8]) -> Result<Document, UnexpectedParse> {
     read(alloc, depth, input)
 }
 
-/// Reads a text that is one document, as [`read_slice`] does.
+/// Reads a document from a text, as [`read_slice`] does.
 pub fn read_text(alloc: Global, depth: usize, text: &str) -> Result<Document, UnexpectedParse> {
     read(alloc, depth, text.as_bytes())
 }
 
-/// Reads the same from pieces, one after another.
+/// Reads a document from pieces, one after another.
 pub fn read_pieces(
     alloc: Global,
     depth: usize,
@@ -48,7 +48,7 @@ pub fn read_pieces(
     parse_pieces(alloc, between(blanks(), eof(), value), pieces)
 }
 
-/// Reads the same from a slice, and returns why it is refused and after how many bytes.
+/// Reads a document from a slice, with readable errors.
 pub fn read_easily<'a>(
     alloc: Global,
     depth: usize,
