@@ -19,7 +19,7 @@ use types::{Factory, Lazy};
 ///
 /// # Partial input
 ///
-/// The state keeps the parser and its state. After need of more the next call goes on with that parser, and the maker isn't called again.
+/// The state keeps the parser and its state. After need of more the next call goes on with that parser.
 ///
 /// # Differences from combine
 ///

@@ -213,7 +213,7 @@ impl<F: Maker<Output = P>, P: Parser<fed::Stream<T>> + Drop, T: Copy + 'static> 
     ///
     /// # Partial input
     ///
-    /// The end is `More` exactly if the next message is undecided on the tokens after the last one, open. With the next piece it continues from where it stopped, and the tokens that its parser put back are read again.
+    /// The end is `More` only if the next message may be undecided on the tokens after the last one, open; exactly then if the maker's parsers share one meaning that has one outcome. With the next piece it continues from where it stopped, and the tokens that its parser put back are read again.
     ///
     /// Each message is returned with the piece that decides it. However the tokens are cut, there are as many messages, and the same end except for the number of tokens that a refusal counts, if the maker's parsers share one meaning that has one outcome.
     pub fn feed(&mut self, piece: &[T]) -> Result<Batch<P::Output>, DecodeError>

@@ -129,7 +129,7 @@ pub enum Item<O, V> {
 ///
 /// `awaited: Fn(&Part<O, O::Value, N>) -> P, P: Parser<Input, Output = Item<O, O::Value>>`, or a `RefFunction`, as `always` returns; so are `inside` and `outside`.
 ///
-/// `levels` has the place and the grouping of each level's operators; the first level binds least. An operator of a level beyond them fits nowhere. The value is that of the expression, in which a part in brackets is an operand; it is committed exactly if a step was.
+/// `levels` has the place and the grouping of each level's operators; the first level binds least. An operator of a level beyond them fits nowhere. The value is that of an expression which the items spell, in which a part in brackets is an operand; it is committed exactly if a step was.
 ///
 /// Three functions return the parsers of the steps:
 ///

@@ -2,7 +2,7 @@
 //!
 //! A grammar that nests is read step by step. Its open constructs are a stack of frames of the caller's type: an array before its end, a bracket, an operator before its operand. The innermost frame chooses the parser of the next step and takes its item: it stays, opens a frame inside itself, refuses, or closes with a value, which the frame around it gets.
 //!
-//! Nothing recurses, so no input overflows the call stack, and a parse goes on at the step where a piece ended.
+//! Nothing recurses, so no input makes a parse's call stack grow, and a parse goes on at the step where a piece ended.
 ghost use Rattle.std.specs.Prelude.{◌≡◌, MatchResult};
 ghost use Rattle.combine_nested.specs.Asks.{always_of, always_with_of, if_else_of};
 ghost use Rattle.combine_nested.specs.NestedSteps.{nested_of};

@@ -130,7 +130,7 @@ impl<
 
 /// Runs `parser` at least `min` and at most `max` times, and collects its values in order.
 ///
-/// `min` has to be at most `max`. A turn may take nothing. After `max` turns the result is accepted, and no further turn runs. A peeked refusal ends the turns; after at least `min` it is put back, and the result is accepted. An acceptance is committed exactly if a turn was.
+/// `min` has to be at most `max`. A turn may take nothing. After `max` turns the result is accepted, whatever follows. A peeked refusal ends the turns; after at least `min` it is put back, and the result is accepted. An acceptance is committed exactly if a turn was.
 ///
 /// # Errors
 ///

@@ -124,7 +124,7 @@ impl<Input: Stream, P: Parser<Input>, S: Parser<Input>, F: Append<P::Output>, B:
 
 /// Parses at least `min` and at most `max` elements by `parser`, with `separator` between two of them. Our own.
 ///
-/// `min` has to be at most `max`. With `max` 0 the result is accepted, and nothing runs. After `max` elements it is accepted, and no further turn runs. A peeked refusal of a later turn is put back, and after at least `min` elements the result is accepted. With `min` 0 a peeked refusal of the first element is put back too, and accepted, peeked. Else an acceptance is committed exactly if a turn was.
+/// `min` has to be at most `max`. With `max` 0 the result is accepted, whatever follows, and so it is after `max` elements. A peeked refusal of a later turn is put back, and after at least `min` elements the result is accepted. With `min` 0 a peeked refusal of the first element is put back too, and accepted, peeked. Else an acceptance is committed exactly if a turn was.
 ///
 /// # Errors
 ///

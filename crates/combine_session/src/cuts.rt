@@ -100,7 +100,7 @@ fn parse_window<S: Windowed, P: Parser<MaybePartialStream<S::Located>>>(
 ///
 /// # Partial input
 ///
-/// More is needed exactly if the input before the cut is undecided.
+/// More is needed only if the input before the cut may be undecided; if the parser is `determined`, exactly then.
 ///
 /// # Examples
 ///

@@ -145,7 +145,7 @@ impl<P: Parser<fed::Stream<T>>, T: Copy + 'static> Session<P, T> {
     ///
     /// # Partial input
     ///
-    /// The result is `More` if the parser is undecided on the input so far, open; if it is `determined`, only then.
+    /// The result is `More` only if the parser may be undecided on the input so far, open; if it is `determined`, exactly then.
     #[inline]
     pub fn feed(&mut self, piece: &[T]) -> Result<Answer<P::Output, UnexpectedParse>, SessionError>
         ensures { Feeds P.meaning P.valid self.old self.new piece.now true result }
@@ -219,7 +219,7 @@ impl<P: Parser<fed::Stream<T>>, T: Copy + 'static> Session<P, T> {
 
 /// Parses the pieces as one input, which then ends. Our own.
 ///
-/// However the input is cut, the result is one that the parser means on all of it. An acceptance counts the tokens taken from the beginning, and so does a refusal, up to where the parser refused: at most all. The error of a refusal is of kind `Refused`, or `End` if the input ended too soon. Pieces after a decision are ignored.
+/// However the input is cut, the result is one that the parser means on all of it. An acceptance counts the tokens taken from the beginning, and so does a refusal, up to where the parser refused: at most all. The error of a refusal is of kind `Refused`, or perhaps `End` if the input ended too soon. Pieces after a decision don't change the result.
 ///
 /// # Errors
 ///

@@ -11,7 +11,7 @@ use std::alloc::{AllocError, Global};
 
 /// Decodes the pieces as one input. Our own.
 ///
-/// The maker must always be callable, and each parser that it returns must be lawful. However the input is cut, the messages and their end are those of the whole, in order. A refusal counts at most the tokens after the last message. Without pieces, the end is that of the empty input. Pieces after an end other than `More` are ignored.
+/// The maker must always be callable, and each parser that it returns must be lawful. However the input is cut, the messages and their end are those of the whole, in order. A refusal counts at most the tokens after the last message. Without pieces, the end is that of the empty input. Pieces after an end other than `More` don't change the result.
 ///
 /// # Errors
 ///

@@ -16,7 +16,7 @@ use std::marker::PhantomData;
 
 /// The parser of [`iterate`](crate::iterate::iterate).
 ///
-/// The state keeps the running item's parser, so `f` is not called for that item again.
+/// The state keeps the running item's parser.
 #[derive(Drop)]
 pub struct Iterate<C, J, F> {
     pub(super) alloc: Global,

@@ -17,7 +17,7 @@ use std::marker::PhantomData;
 
 /// A parser, followed by the one that a function returns for its value.
 ///
-/// The state keeps the returned parser; the function isn't called again.
+/// The state keeps the returned parser.
 #[derive(Drop)]
 #[derive_where(Clone, Copy; P, K)]
 pub struct Answered<P, K, B> {
