@@ -156,3 +156,10 @@ pub use Rattle.combine_nested.specs.RefusedSteps
 pub use Rattle.combine_nested.specs.Shapes
 pub use Rattle.combine_nested.specs.SpelledItems
 pub use Rattle.combine_nested.specs.OpenExpressions
+pub use Rattle.combine_token.specs.Token.Among
+pub use Rattle.combine_byte.specs.Search.SearchReasons
+pub use Rattle.combine_byte.specs.Bytes.ByteSearch
+pub use Rattle.combine_byte.specs.Bytes.Encoding
+pub use Rattle.combine_stream.specs.Range.TextWindows
+pub use Rattle.combine_separated.specs.Pair
+pub use Rattle.combine_repeat.specs.Turns.SoundValues
