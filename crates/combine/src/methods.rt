@@ -27,7 +27,7 @@ use combine_sequence::sequence::types::{Skip, Then, ThenPartial, ThenRef, With};
 
 /// The method forms of the constructors, for every parser.
 ///
-/// Each has the meaning of the constructor of the same name.
+/// Each has the meaning of the constructor of the same name. Functions are those of the constructors.
 ///
 /// In combine they are methods of `Parser` itself.
 pub trait ParserExt<Input: Stream>: Parser<Input> {

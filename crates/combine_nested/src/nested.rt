@@ -142,6 +142,8 @@ pub fn always<P>(parser: P) -> Always<P>
 }
 
 /// Returns a function of frames that gives `maker`'s parser at each step, as `always_with(|| expected(digit(), "digit"))`.
+///
+/// `maker: Fn() -> N, N: Parser<Input>`, or a `Maker`.
 #[inline]
 pub fn always_with<M>(maker: M) -> AlwaysWith<M>
     ensures { result ≡ always_with_of maker }

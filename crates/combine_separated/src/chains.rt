@@ -17,7 +17,7 @@ use types::{Chain, Chainl1, Chainr1, Escaped};
 
 /// Parses operands with an operator between two of them, and folds them from the left by the functions that `operator` returns.
 ///
-/// `operator: Parser<Input, Output = O>, O: FnOnce(P::Output, P::Output) -> P::Output`.
+/// `operator: Parser<Input, Output = O>, O: FnOnce(P::Output, P::Output) -> P::Output`, or a `Folds`.
 ///
 /// The functions must be callable with any operands. It takes tokens as `sep_by1` does.
 ///
@@ -53,7 +53,7 @@ pub fn chainl1<P, S>(parser: P, operator: S) -> Chainl1<P, S>
 
 /// Parses operands with an operator between two of them, and folds them from the right by the functions that `operator` returns.
 ///
-/// `operator: Parser<Input, Output = O>, O: FnOnce(P::Output, P::Output) -> P::Output`.
+/// `operator: Parser<Input, Output = O>, O: FnOnce(P::Output, P::Output) -> P::Output`, or a `Folds`.
 ///
 /// The functions must be callable with any operands. It takes tokens as `sep_by1` does. The operands are stored in memory of `alloc`, not on the call stack.
 ///

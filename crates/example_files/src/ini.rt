@@ -305,6 +305,11 @@ pub fn read(alloc: Global, text: &str) -> Result<Vec<Line>, UnexpectedParse> {
     read_stream(alloc, text)
 }
 
+/// Returns the lines of a file, from a slice of its characters.
+pub fn read_slice(alloc: Global, characters: &[char]) -> Result<Vec<Line>, UnexpectedParse> {
+    read_stream(alloc, characters)
+}
+
 /// Why a file is refused, and where.
 pub type ConfigError<'a> = Errors<char, &'a str, SourcePosition>;
 

@@ -11,7 +11,6 @@ use combine::parser::repeat::types::Escaped;
 use combine::parser::sequence::skip;
 use combine::parser::sequence::types::{Between, Skip};
 use combine::parser::token::types::{Any, Token};
-use combine::stream::Kind;
 use combine::{Function, Parser, any, between, eof, skip_count, token};
 
 /// A line of the log. What isn't known is `-`, as in the line.

@@ -1,6 +1,7 @@
 //! The grammar of one step. `I` is the stream.
 
 use crate::place::Place;
+use combine::error::UnexpectedParse;
 use combine::parser::choice::or;
 use combine::parser::choice::types::{Optional, Or};
 use combine::parser::combinator::types::{Ignore, Map, Recognize};
@@ -9,9 +10,7 @@ use combine::parser::repeat::types::{SkipMany, SkipMany1};
 use combine::parser::sequence::skip;
 use combine::parser::sequence::types::Skip;
 use combine::parser::token::types::{Satisfy, Token};
-use combine::{
-    Function, Parser, UnexpectedParse, eof, one_of, optional, satisfy, skip_many, skip_many1, token,
-};
+use combine::{Function, Parser, eof, one_of, optional, satisfy, skip_many, skip_many1, token};
 use std::alloc::Global;
 
 /// A class of bytes.

@@ -24,11 +24,10 @@ pub struct Open {
 impl Open {
     /// Returns the whole, before its first item.
     pub fn new(alloc: Global) -> Open {
-        let nodes = Vec::new(alloc);
         Open {
             alloc,
             place: Place::Whole,
-            nodes,
+            nodes: Vec::new(alloc),
         }
     }
 
@@ -89,10 +88,9 @@ impl Frame for Open {
             },
         };
         self.nodes.push(node)?;
-        let place = self.place.after();
-        match (place, sign) {
+        match (self.place.after(), sign) {
             (Some(place), Some(sign)) => self.go_on(place.after_sign(sign)),
-            _ => self.go_on(place),
+            (place, _) => self.go_on(place),
         }
     }
 
