@@ -5,9 +5,10 @@ ghost use Rattle.combine_token.specs.Token.TokenParsers.{token_parser};
 use crate::partial::InPieces;
 use combine::parser::combinator::{factory, map_input};
 use combine::parser::parse_pieces;
-use combine::parser::sequence::{then_partial, then_ref};
+use combine::parser::repeat::{Folds, chainl1};
+use combine::parser::sequence::{then_partial, then_ref, with};
 use combine::parser::token::types::Token;
-use combine::parser::token::{any, token, tokens_cmp};
+use combine::parser::token::{any, token, tokens_cmp, value};
 use combine::stream::fed;
 use combine::{Compare, MutFunction, RefFunction};
 use std::alloc::Global;
@@ -83,4 +84,23 @@ impl Compare<u8, u8> for AnyCase {
 /// Parses `ab` in small or capital letters.
 pub fn letters(alloc: Global, pieces: &[&[u8]]) -> InPieces<[u8; 2]> {
     parse_pieces(alloc, tokens_cmp([b'a', b'b'], AnyCase), pieces)
+}
+
+/// Adds two numbers.
+#[derive(Clone, Copy, Drop)]
+struct Added;
+
+impl Folds<u8> for Added {
+    fn fold_two(self, left: u8, right: u8) -> u8 {
+        left.wrapping_add(right)
+    }
+}
+
+/// Parses bytes with a `+` between two of them, and adds them.
+pub fn sum(alloc: Global, pieces: &[&[u8]]) -> InPieces<u8> {
+    parse_pieces(
+        alloc,
+        chainl1(any(), with(token(b'+'), value(Added))),
+        pieces,
+    )
 }
